@@ -1,0 +1,604 @@
+//! The baseline: the same calls as optimised Rust, to lay the library's speed
+//! beside. Word tables (document 000, 4.1), φ by rotations and masks, the
+//! state in four words, and the key schedule on the fly: no round key is
+//! stored. The round is written once for each key size by the compiler.
+
+use reference::{
+    Answer, ALTERED, BLANK, NO_SUCH_SLOT, OTHER_KEY_CLASS, OVERLONG, TWIN_KEYS, UNFIT_SHEET, WORN,
+    WRONG_KEY, WRONG_SPAN,
+};
+use std::array::from_fn;
+
+type Words = [u16; 4];
+
+// ---- Tables ----
+
+const S: [[u16; 16]; 4] = [
+    [4, 15, 3, 8, 13, 10, 12, 0, 11, 5, 7, 14, 2, 6, 1, 9],
+    [1, 12, 7, 10, 6, 13, 5, 3, 15, 11, 2, 0, 8, 4, 9, 14],
+    [7, 14, 12, 2, 0, 9, 13, 10, 3, 15, 5, 8, 6, 4, 11, 1],
+    [11, 0, 10, 7, 13, 6, 4, 2, 12, 14, 3, 9, 1, 5, 15, 8],
+];
+
+const M: [u16; 4] = [0xe, 0xd, 0xb, 0x7];
+
+/// c_0 to c_12, each written four times.
+const CONSTANTS: [u16; 13] = [
+    0x1111, 0x2222, 0x4444, 0x8888, 0x3333, 0x6666, 0xcccc, 0xbbbb, 0x5555, 0xaaaa, 0x7777, 0xeeee,
+    0xffff,
+];
+
+/// The tables SS_0 to SS_3, each entry turned by a number of bits.
+const fn word_tables(turn: u32) -> [[u16; 16]; 4] {
+    let mut tables = [[0; 16]; 4];
+    let mut i = 0;
+    while i < 4 {
+        let mut j = 0;
+        while j < 16 {
+            let s = S[i][j];
+            let entry = (s & M[i]) << 12
+                | (s & M[(i + 1) % 4]) << 8
+                | (s & M[(i + 2) % 4]) << 4
+                | s & M[(i + 3) % 4];
+            tables[i][j] = entry.rotate_left(turn);
+            j += 1;
+        }
+        i += 1;
+    }
+    tables
+}
+
+static ENCRYPTING: [[u16; 16]; 4] = word_tables(0);
+static DECRYPTING: [[u16; 16]; 4] = word_tables(8);
+
+// ---- Rounds ----
+
+#[inline(always)]
+fn xor(a: Words, b: Words) -> Words {
+    from_fn(|i| a[i] ^ b[i])
+}
+
+/// γ, π and τ: row i of the next array from the nibbles of column i. `first`
+/// is the table of row 0, column 0.
+#[inline(always)]
+fn mixed(tables: &[[u16; 16]; 4], first: usize, a: Words) -> Words {
+    from_fn(|i| {
+        let entry = |k: usize| {
+            let nibble = a[k] >> (12 - 4 * i) & 0xf;
+            tables[(first + i + k) % 4][usize::from(nibble)]
+        };
+        entry(0) ^ entry(1) ^ entry(2) ^ entry(3)
+    })
+}
+
+/// The masks of φ: the nibbles m_i and those that rotations bring there.
+const TURNED_MASKS: Words = [0xebeb, 0xd7d7, 0xbebe, 0x7d7d];
+
+#[inline(always)]
+fn phi(a: Words) -> Words {
+    from_fn(|i| {
+        (0..4).fold(0, |word, k| {
+            word ^ a[i].rotate_left(4 * k as u32) & TURNED_MASKS[(i + k) % 4]
+        })
+    })
+}
+
+#[inline(always)]
+fn words(block: u64) -> Words {
+    from_fn(|i| (block >> (48 - 16 * i)) as u16)
+}
+
+#[inline(always)]
+fn number(a: Words) -> u64 {
+    a.iter()
+        .fold(0, |block, word| block << 16 | u64::from(*word))
+}
+
+// ---- The key register ----
+
+/// A register of t words.
+trait Register: Copy {
+    fn of_key(key: &[u8]) -> Self;
+    fn forward(self) -> Self;
+    fn backward(self) -> Self;
+    fn backward_start(self) -> Self;
+    /// Word 0, and the four words that make the round key.
+    fn parts(self) -> (u16, Words);
+}
+
+#[derive(Clone, Copy)]
+struct Four([u16; 4]);
+#[derive(Clone, Copy)]
+struct Six([u16; 6]);
+#[derive(Clone, Copy)]
+struct Eight([u16; 8]);
+
+#[inline(always)]
+fn by(word: u16, bits: u32) -> u16 {
+    word.rotate_left(bits)
+}
+
+#[inline(always)]
+fn key_words<const T: usize>(key: &[u8]) -> [u16; T] {
+    from_fn(|i| u16::from_be_bytes([key[2 * i], key[2 * i + 1]]))
+}
+
+impl Register for Four {
+    #[inline(always)]
+    fn of_key(key: &[u8]) -> Four {
+        Four(key_words(key))
+    }
+
+    #[inline(always)]
+    fn forward(self) -> Four {
+        let [u0, u1, u2, u3] = self.0;
+        Four([u1, u2, u3, by(u0, 3)])
+    }
+
+    #[inline(always)]
+    fn backward(self) -> Four {
+        let [v0, v1, v2, v3] = self.0;
+        Four([by(v3, 13), v0, v1, v2])
+    }
+
+    #[inline(always)]
+    fn backward_start(self) -> Four {
+        Four(self.0.map(|word| by(word, 9)))
+    }
+
+    #[inline(always)]
+    fn parts(self) -> (u16, Words) {
+        let [u0, u1, u2, u3] = self.0;
+        (u0, [u1, u2, u3, u0])
+    }
+}
+
+impl Register for Six {
+    #[inline(always)]
+    fn of_key(key: &[u8]) -> Six {
+        Six(key_words(key))
+    }
+
+    #[inline(always)]
+    fn forward(self) -> Six {
+        let [u0, u1, u2, u3, u4, u5] = self.0;
+        Six([u5, by(u0, 3), u1, u2, by(u3, 8), u4])
+    }
+
+    #[inline(always)]
+    fn backward(self) -> Six {
+        let [v0, v1, v2, v3, v4, v5] = self.0;
+        Six([by(v1, 13), v2, v3, by(v4, 8), v5, v0])
+    }
+
+    #[inline(always)]
+    fn backward_start(self) -> Six {
+        Six(self.0.map(|word| by(word, 6)))
+    }
+
+    #[inline(always)]
+    fn parts(self) -> (u16, Words) {
+        let [u0, u1, u2, u3, u4, _] = self.0;
+        (u0, [u1, u2, u3, u4])
+    }
+}
+
+impl Register for Eight {
+    #[inline(always)]
+    fn of_key(key: &[u8]) -> Eight {
+        Eight(key_words(key))
+    }
+
+    #[inline(always)]
+    fn forward(self) -> Eight {
+        let [u0, u1, u2, u3, u4, u5, u6, u7] = self.0;
+        Eight([u5, u6, u7, by(u0, 3), u1, u2, u3, by(u4, 8)])
+    }
+
+    #[inline(always)]
+    fn backward(self) -> Eight {
+        let [v0, v1, v2, v3, v4, v5, v6, v7] = self.0;
+        Eight([by(v3, 13), v4, v5, v6, by(v7, 8), v0, v1, v2])
+    }
+
+    #[inline(always)]
+    fn backward_start(self) -> Eight {
+        let [k0, k1, k2, k3, k4, k5, k6, k7] = self.0;
+        let (a, b) = (3, 14);
+        Eight([
+            by(k4, a),
+            by(k5, b),
+            by(k6, a),
+            by(k7, b),
+            by(k0, b),
+            by(k1, a),
+            by(k2, b),
+            by(k3, a),
+        ])
+    }
+
+    #[inline(always)]
+    fn parts(self) -> (u16, Words) {
+        let [u0, u1, u2, u3, u4, _, _, _] = self.0;
+        (u0, [u1, u2, u3, u4])
+    }
+}
+
+/// The round key of a register under a constant, without φ.
+#[inline(always)]
+fn round_key(register: impl Register, constant: u16) -> Words {
+    let (u0, words) = register.parts();
+    from_fn(|i| {
+        let shift = 12 - 4 * i;
+        let substituted = S[0][usize::from(u0 >> shift & 0xf)] << shift;
+        words[i] ^ substituted ^ constant & 0xf << shift
+    })
+}
+
+// ---- One block ----
+
+/// Where a block is: the register, and the array.
+type State<R> = (R, Words);
+
+#[inline(always)]
+fn encryption_start<R: Register>(key: R, block: u64) -> State<R> {
+    (key, xor(words(block), round_key(key, CONSTANTS[0])))
+}
+
+#[inline(always)]
+fn encryption_round<R: Register>((register, a): State<R>, r: usize) -> State<R> {
+    let next = register.forward();
+    let key = round_key(next, CONSTANTS[r]);
+    (next, xor(mixed(&ENCRYPTING, 0, a), key))
+}
+
+#[inline(always)]
+fn decryption_start<R: Register>(key: R, block: u64) -> State<R> {
+    let start = key.backward_start();
+    let key = phi(round_key(start, CONSTANTS[12]));
+    (start, xor(words(block), key))
+}
+
+#[inline(always)]
+fn decryption_round<R: Register>((register, a): State<R>, r: usize) -> State<R> {
+    let next = register.backward();
+    let key = phi(round_key(next, CONSTANTS[12 - r]));
+    (next, xor(mixed(&DECRYPTING, 2, a), key))
+}
+
+#[inline(always)]
+fn encrypt<R: Register>(key: R, block: u64) -> u64 {
+    let mut state = encryption_start(key, block);
+    for r in 1..13 {
+        state = encryption_round(state, r);
+    }
+    number(phi(state.1))
+}
+
+#[inline(always)]
+fn decrypt<R: Register>(key: R, block: u64) -> u64 {
+    let mut state = decryption_start(key, block);
+    for r in 1..13 {
+        state = decryption_round(state, r);
+    }
+    number(phi(state.1))
+}
+
+/// The twelve rounds written out, which the compiler doesn't do by itself.
+macro_rules! unrolled {
+    ($round:ident, $start:expr) => {{
+        let state = $round($round($round($round($start, 1), 2), 3), 4);
+        let state = $round($round($round($round(state, 5), 6), 7), 8);
+        $round($round($round($round(state, 9), 10), 11), 12)
+    }};
+}
+
+#[inline(always)]
+fn encrypt_unrolled<R: Register>(key: R, block: u64) -> u64 {
+    let state = unrolled!(encryption_round, encryption_start(key, block));
+    number(phi(state.1))
+}
+
+#[inline(always)]
+fn decrypt_unrolled<R: Register>(key: R, block: u64) -> u64 {
+    let state = unrolled!(decryption_round, decryption_start(key, block));
+    number(phi(state.1))
+}
+
+/// The number of a block's 8 bytes.
+#[inline(always)]
+fn load(bytes: &[u8]) -> u64 {
+    bytes
+        .first_chunk()
+        .map_or(0, |block| u64::from_be_bytes(*block))
+}
+
+/// One of the three instances of a function over registers, by the key's
+/// length; else the refusal.
+macro_rules! by_key_length {
+    ($length:expr, $function:ident($($argument:expr),*), $wrong:expr) => {
+        match $length {
+            8 => $function::<Four>($($argument),*),
+            12 => $function::<Six>($($argument),*),
+            16 => $function::<Eight>($($argument),*),
+            _ => $wrong,
+        }
+    };
+}
+
+/// A block call over one of the four functions above.
+macro_rules! block_call {
+    ($name:ident, $function:ident) => {
+        pub fn $name(key: &[u8], block: &[u8], out: &mut [u8]) -> Answer {
+            fn whole<R: Register>(key: &[u8], block: &[u8], out: &mut [u8]) -> Answer {
+                if block.len() != 8 || out.len() != 8 {
+                    return Answer::refused(WRONG_SPAN);
+                }
+                let result = $function(R::of_key(key), load(block));
+                out.copy_from_slice(&result.to_be_bytes());
+                Answer::accepted(0)
+            }
+            let wrong = Answer::refused(WRONG_KEY);
+            by_key_length!(key.len(), whole(key, block, out), wrong)
+        }
+    };
+}
+
+block_call!(encrypt_block, encrypt);
+block_call!(decrypt_block, decrypt);
+block_call!(encrypt_block_unrolled, encrypt_unrolled);
+block_call!(decrypt_block_unrolled, decrypt_unrolled);
+
+// ---- CMAC ----
+
+#[inline(always)]
+fn doubled(x: u64) -> u64 {
+    (x << 1) ^ ((x >> 63) * 0x1b)
+}
+
+/// CMAC of a message, `c` being the chain before it.
+#[inline(always)]
+fn cmac_from<R: Register>(key: R, mut c: u64, message: &[u8]) -> u64 {
+    let k1 = doubled(encrypt(key, 0));
+    // The last block has 1 to 8 bytes; only that of the empty message has 0.
+    let (front, last) = message.split_at(message.len().saturating_sub(1) / 8 * 8);
+    for block in front.chunks_exact(8) {
+        c = encrypt(key, c ^ load(block));
+    }
+    let m_n = if last.len() == 8 {
+        k1 ^ load(last)
+    } else {
+        let mut padded = [0; 8];
+        padded[..last.len()].copy_from_slice(last);
+        padded[last.len()] = 0x80;
+        doubled(k1) ^ u64::from_be_bytes(padded)
+    };
+    encrypt(key, c ^ m_n)
+}
+
+pub fn cmac(key: &[u8], message: &[u8], out: &mut [u8]) -> Answer {
+    fn whole<R: Register>(key: &[u8], message: &[u8], out: &mut [u8]) -> Answer {
+        if out.len() != 8 {
+            return Answer::refused(WRONG_SPAN);
+        }
+        let mac = cmac_from(R::of_key(key), 0, message);
+        out.copy_from_slice(&mac.to_be_bytes());
+        Answer::accepted(0)
+    }
+    by_key_length!(
+        key.len(),
+        whole(key, message, out),
+        Answer::refused(WRONG_KEY)
+    )
+}
+
+// ---- The sheet ----
+
+const FIELD: usize = 192;
+
+/// The sizes of a fit sheet, and its last write number.
+struct Header {
+    n: usize,
+    t: usize,
+    w: u32,
+}
+
+/// The bytes are gathered and tested once: a scan that stops early is slower.
+fn all_zero(bytes: &[u8]) -> bool {
+    bytes.iter().fold(0, |gathered, byte| gathered | byte) == 0
+}
+
+/// The layout test.
+fn fit_header(sheet: &[u8]) -> Option<Header> {
+    let head: &[u8; 8] = sheet.first_chunk()?;
+    let n = usize::from(u16::from_be_bytes([head[0], head[1]]));
+    let t = usize::from(head[2]);
+    let w = u32::from_be_bytes([head[4], head[5], head[6], head[7]]);
+    let sized = (1..=256).contains(&n)
+        && matches!(t, 4 | 6 | 8)
+        && head[3] == 1
+        && sheet.len() == 8 + 208 * n;
+    if !sized {
+        return None;
+    }
+    let (marks, fields) = sheet[8..].split_at(16 * n);
+    let mut slots = marks.chunks_exact(16).zip(fields.chunks_exact(FIELD));
+    slots
+        .all(|(mark, field)| slot_fits(w, mark, field))
+        .then_some(Header { n, t, w })
+}
+
+/// A write number of 0 leaves only a blank slot, any other only a written one.
+#[inline(always)]
+fn slot_fits(w: u32, mark: &[u8], field: &[u8]) -> bool {
+    let numbers = load(mark);
+    let write_number = (numbers >> 32) as u32;
+    if write_number == 0 {
+        all_zero(mark) && all_zero(field)
+    } else {
+        write_number <= w && (numbers >> 16) as u16 <= FIELD as u16 && numbers as u16 == 0
+    }
+}
+
+pub fn fit(sheet: &[u8]) -> bool {
+    fit_header(sheet).is_some()
+}
+
+pub fn clear(sheet: &mut [u8], slot: usize) -> Answer {
+    let Some(header) = fit_header(sheet) else {
+        return Answer::refused(UNFIT_SHEET);
+    };
+    if slot >= header.n {
+        return Answer::refused(NO_SUCH_SLOT);
+    }
+    sheet[8 + 16 * slot..][..16].fill(0);
+    sheet[8 + 16 * header.n + FIELD * slot..][..FIELD].fill(0);
+    Answer::accepted(0)
+}
+
+/// Tests 1 and 2.
+fn key_fault(sealing_key: &[u8], checking_key: &[u8]) -> Option<u8> {
+    if !matches!(sealing_key.len(), 8 | 12 | 16) || checking_key.len() != sealing_key.len() {
+        Some(WRONG_KEY)
+    } else if sealing_key == checking_key {
+        Some(TWIN_KEYS)
+    } else {
+        None
+    }
+}
+
+/// The block of write number, slot and a third number.
+#[inline(always)]
+fn numbers(write_number: u32, slot: usize, last: u16) -> u64 {
+    u64::from(write_number) << 32 | (slot as u64) << 16 | u64::from(last)
+}
+
+/// The check: CMAC of the numbers and the field, 25 blocks.
+#[inline(always)]
+fn check<R: Register>(key: R, numbers: u64, field: &[u8]) -> u64 {
+    cmac_from(key, encrypt(key, numbers), field)
+}
+
+pub fn write(
+    sealing_key: &[u8],
+    checking_key: &[u8],
+    sheet: &mut [u8],
+    slot: usize,
+    caption: &[u8],
+) -> Answer {
+    if let Some(number) = key_fault(sealing_key, checking_key) {
+        return Answer::refused(number);
+    }
+    let Some(header) = fit_header(sheet) else {
+        return Answer::refused(UNFIT_SHEET);
+    };
+    if sealing_key.len() != 2 * header.t {
+        return Answer::refused(OTHER_KEY_CLASS);
+    }
+    if slot >= header.n {
+        return Answer::refused(NO_SUCH_SLOT);
+    }
+    if caption.len() > FIELD {
+        return Answer::refused(OVERLONG);
+    }
+    let Some(write_number) = header.w.checked_add(1) else {
+        return Answer::refused(WORN);
+    };
+    sheet[4..8].copy_from_slice(&write_number.to_be_bytes());
+    let (head, fields) = sheet.split_at_mut(8 + 16 * header.n);
+    let mark = &mut head[8 + 16 * slot..][..16];
+    let field = &mut fields[FIELD * slot..][..FIELD];
+    let mut plain = [0; FIELD];
+    plain[..caption.len()].copy_from_slice(caption);
+    let length = caption.len() as u16;
+    let (keys, place) = ((sealing_key, checking_key), (write_number, slot, length));
+    by_key_length!(
+        sealing_key.len(),
+        put_slot(keys, place, &plain, mark, field),
+        ()
+    );
+    Answer::accepted(0)
+}
+
+fn put_slot<R: Register>(
+    (sealing_key, checking_key): (&[u8], &[u8]),
+    (write_number, slot, length): (u32, usize, u16),
+    plain: &[u8; FIELD],
+    mark: &mut [u8],
+    field: &mut [u8],
+) {
+    let key = R::of_key(sealing_key);
+    let mut chain = encrypt(key, numbers(write_number, slot, 0));
+    for (block, out) in plain.chunks_exact(8).zip(field.chunks_exact_mut(8)) {
+        chain = encrypt(key, chain ^ load(block));
+        out.copy_from_slice(&chain.to_be_bytes());
+    }
+    let checked = numbers(write_number, slot, length);
+    let check = check(R::of_key(checking_key), checked, field);
+    mark[0..4].copy_from_slice(&write_number.to_be_bytes());
+    mark[4..8].copy_from_slice(&(u32::from(length) << 16).to_be_bytes());
+    mark[8..16].copy_from_slice(&check.to_be_bytes());
+}
+
+pub fn read(
+    sealing_key: &[u8],
+    checking_key: &[u8],
+    sheet: &[u8],
+    slot: usize,
+    window: &mut [u8],
+) -> Answer {
+    window.fill(0);
+    if let Some(number) = key_fault(sealing_key, checking_key) {
+        return Answer::refused(number);
+    }
+    if window.len() != FIELD {
+        return Answer::refused(WRONG_SPAN);
+    }
+    let Some(header) = fit_header(sheet) else {
+        return Answer::refused(UNFIT_SHEET);
+    };
+    if sealing_key.len() != 2 * header.t {
+        return Answer::refused(OTHER_KEY_CLASS);
+    }
+    if slot >= header.n {
+        return Answer::refused(NO_SUCH_SLOT);
+    }
+    let mark = &sheet[8 + 16 * slot..][..16];
+    let field = &sheet[8 + 16 * header.n + FIELD * slot..][..FIELD];
+    let keys = (sealing_key, checking_key);
+    by_key_length!(
+        sealing_key.len(),
+        shown_slot(keys, slot, mark, field, window),
+        Answer::refused(WRONG_KEY)
+    )
+}
+
+fn shown_slot<R: Register>(
+    (sealing_key, checking_key): (&[u8], &[u8]),
+    slot: usize,
+    mark: &[u8],
+    field: &[u8],
+    window: &mut [u8],
+) -> Answer {
+    let write_number = (load(mark) >> 32) as u32;
+    let length = (load(mark) >> 16) as u16;
+    if write_number == 0 {
+        return Answer::refused(BLANK);
+    }
+    let checked = numbers(write_number, slot, length);
+    if check(R::of_key(checking_key), checked, field) != load(&mark[8..]) {
+        return Answer::refused(ALTERED);
+    }
+    let key = R::of_key(sealing_key);
+    let mut before = encrypt(key, numbers(write_number, slot, 0));
+    for (block, out) in field.chunks_exact(8).zip(window.chunks_exact_mut(8)) {
+        let sealed = load(block);
+        out.copy_from_slice(&(decrypt(key, sealed) ^ before).to_be_bytes());
+        before = sealed;
+    }
+    if !all_zero(&window[usize::from(length)..]) {
+        window.fill(0);
+        return Answer::refused(ALTERED);
+    }
+    Answer::accepted(length)
+}

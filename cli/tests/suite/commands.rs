@@ -1,0 +1,161 @@
+//! Each command, its file and its output against the second program's.
+
+use crate::support::*;
+use crate::words;
+use std::fs;
+use std::process::Command;
+
+const CLASSES: [(usize, &str); 3] = [(8, "64"), (12, "96"), (16, "128")];
+
+#[test]
+fn blank_makes_the_second_programs_sheet() {
+    let scratch = Scratch::new();
+    for (key_len, bits) in CLASSES {
+        for slots in [1, 2, 17, 255, 256] {
+            let file = scratch.join(format!("{slots}-{bits}.sheet"));
+            run(&words!["blank", file, slots.to_string(), bits]).done();
+            assert_eq!(fs::read(file).unwrap(), blank_sheet(slots, key_len / 2));
+        }
+    }
+    assert!(!scratch.names().contains(&TEMPORARY.to_string()));
+}
+
+#[test]
+fn write_stores_what_the_second_program_stores() {
+    let scratch = Scratch::new();
+    for (key_len, _) in CLASSES {
+        let file = scratch.sheet("sheet", 3, key_len / 2);
+        let keys = scratch.keys(key_len);
+        let mut sheet = blank_sheet(3, key_len / 2);
+        let every_byte: Vec<u8> = (0..192).map(|i| (i * 37 + 200) as u8).collect();
+        let captions: [(usize, &[u8]); 5] = [
+            (0, b"Vase, 1752"),
+            (2, &every_byte),
+            (0, b"Vase, 1751\n"),
+            (1, b""),
+            (2, b"\0\0\0"),
+        ];
+        for (slot, caption) in captions {
+            run_with(&words!["write", file, slot.to_string(), keys], caption).done();
+            sheet = written(&sheet, key_len, slot, caption);
+            assert_eq!(fs::read(&file).unwrap(), sheet);
+            run(&words!["read", file, slot.to_string(), keys]).printed(caption);
+        }
+    }
+}
+
+#[test]
+fn read_prints_the_bytes_and_no_line_feed() {
+    let scratch = Scratch::new();
+    let (file, keys) = (scratch.sheet("sheet", 1, 4), scratch.keys(8));
+    for length in [0, 1, 8, 191, 192] {
+        let caption: Vec<u8> = (0..length).map(|i| (255 - i) as u8).collect();
+        run_with(&words!["write", file, "0", keys], &caption).done();
+        run(&words!["read", file, "0", keys]).printed(&caption);
+    }
+}
+
+#[test]
+fn clear_makes_a_slot_blank() {
+    let scratch = Scratch::new();
+    let file = scratch.join("sheet");
+    let sheet = written(&blank_sheet(2, 4), 8, 1, b"Clock");
+    fs::write(&file, &sheet).unwrap();
+    run(&words!["clear", file, "1"]).done();
+    assert_eq!(fs::read(&file).unwrap(), cleared(&sheet, 1));
+    run(&words!["clear", file, "1"]).done();
+    run(&words!["clear", file, "0"]).done();
+    assert_eq!(fs::read(&file).unwrap(), cleared(&sheet, 1));
+}
+
+#[test]
+fn list_prints_the_second_programs_listing() {
+    let scratch = Scratch::new();
+    let file = scratch.join("sheet");
+    let sheet = written(&blank_sheet(3, 8), 16, 1, b"Clock");
+    let full = blank_sheet(256, 6);
+    let longer = [&full[..], b"\0"].concat();
+    for sheet in [&sheet[..], &full, &longer, &sheet[1..], b"", &[0; 1 << 20]] {
+        fs::write(&file, sheet).unwrap();
+        run(&words!["list", file]).printed(&reference::listing(sheet));
+    }
+    run(&["list", "/dev/zero"]).printed(b"unfit\n");
+}
+
+#[test]
+fn list_prints_the_example_of_the_paper() {
+    let scratch = Scratch::new();
+    let mut sheet = vec![0; 424];
+    sheet[..4].copy_from_slice(&[0, 2, 4, 1]);
+    let file = scratch.join("sheet");
+    fs::write(&file, sheet).unwrap();
+    run(&words!["list", file]).printed(b"slots 2 key 64 last 0\n0 blank\n1 blank\n");
+}
+
+#[test]
+fn verify_tells_sound_blank_and_altered_slots() {
+    let scratch = Scratch::new();
+    let (file, keys) = (scratch.join("sheet"), scratch.keys(8));
+    let sheet = written(&blank_sheet(4, 4), 8, 1, b"Clock");
+    let mut sheet = written(&sheet, 8, 3, &[b'x'; 192]);
+    fs::write(&file, &sheet).unwrap();
+    run(&words!["verify", file, keys])
+        .printed(b"0 blank\n1 sound 5\n2 blank\n3 sound 192\nslots 4 sound 2 blank 2 altered 0\n");
+
+    let field_of_slot_1 = 8 + 16 * 4 + 192;
+    sheet[field_of_slot_1] ^= 0x40;
+    fs::write(&file, &sheet).unwrap();
+    let verified = run(&words!["verify", file, keys]);
+    assert_eq!(verified.status, 10);
+    assert_eq!(verified.stderr, "10 altered\n");
+    assert_eq!(
+        String::from_utf8(verified.stdout).unwrap(),
+        "0 blank\n1 altered\n2 blank\n3 sound 192\nslots 4 sound 1 blank 2 altered 1\n",
+    );
+}
+
+#[test]
+fn verify_tries_every_slot_of_the_largest_sheet() {
+    let scratch = Scratch::new();
+    let (file, keys) = (scratch.join("sheet"), scratch.keys(16));
+    fs::write(&file, written(&blank_sheet(256, 8), 16, 255, b"last")).unwrap();
+    let verified = run(&words!["verify", file, keys]);
+    let report = String::from_utf8(verified.stdout).unwrap();
+    let lines: Vec<&str> = report.lines().collect();
+    assert_eq!(lines.len(), 257);
+    assert_eq!(
+        lines[254..],
+        [
+            "254 blank",
+            "255 sound 4",
+            "slots 256 sound 1 blank 255 altered 0"
+        ]
+    );
+}
+
+#[test]
+fn names_are_taken_from_the_working_folder() {
+    let scratch = Scratch::new();
+    scratch.keys(8);
+    let at = |words: &[&str], stdin: &[u8]| {
+        let mut command = Command::new(PROGRAM);
+        command.args(words).current_dir(scratch.path());
+        run_command(command, stdin)
+    };
+    at(&["blank", "sheet", "1", "64"], b"").done();
+    at(&["write", "./sheet", "0", "keys-8"], b"Vase").done();
+    at(&["read", "sheet", "0", "../x/../keys-8"], b"").failed(74, "../x/../keys-8");
+    at(&["read", "sheet", "0", "keys-8"], b"").printed(b"Vase");
+    assert_eq!(scratch.names(), ["keys-8", "sheet"]);
+}
+
+#[test]
+fn a_name_that_is_not_text_will_do() {
+    use std::os::unix::ffi::OsStrExt;
+    let scratch = Scratch::new();
+    let keys = scratch.keys(8);
+    let file = scratch.join(std::ffi::OsStr::from_bytes(b"sheet-\xff"));
+    run(&words!["blank", file, "1", "64"]).done();
+    run_with(&words!["write", file, "0", keys], b"Vase").done();
+    run(&words!["read", file, "0", keys]).printed(b"Vase");
+}

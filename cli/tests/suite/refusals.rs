@@ -1,0 +1,271 @@
+//! Each refusal by each command that can meet it: number, word, exit status,
+//! and a file that is left alone.
+
+use crate::support::*;
+use crate::words;
+use std::ffi::OsString;
+use std::fs;
+use std::os::unix::fs::MetadataExt;
+use std::path::Path;
+
+/// Runs a command that is to be refused and sees that the file is the same one
+/// as before, byte for byte and not merely equal.
+#[track_caller]
+fn refused(words: &[OsString], stdin: &[u8], file: &Path, number: i32, word: &str) {
+    let state = |file: &Path| {
+        let metadata = fs::metadata(file).unwrap();
+        let modified = (metadata.mtime(), metadata.mtime_nsec());
+        (fs::read(file).unwrap(), metadata.ino(), modified)
+    };
+    let before = state(file);
+    run_with(words, stdin).refused(number, word);
+    assert_eq!(state(file), before);
+    let folder = names_in(file.parent().unwrap());
+    assert!(!folder.contains(&TEMPORARY.to_string()));
+}
+
+#[test]
+fn wrong_key() {
+    let scratch = Scratch::new();
+    let file = scratch.sheet("sheet", 2, 4);
+    for bits in [
+        "0",
+        "63",
+        "65",
+        "72",
+        "80",
+        "112",
+        "256",
+        "18446744073709551616",
+    ] {
+        refused(
+            &words!["blank", file, "2", bits, "--force"],
+            b"",
+            &file,
+            1,
+            "wrong key",
+        );
+    }
+    let wrong = [(7, 7), (9, 9), (8, 12), (16, 8), (0, 0), (13, 13), (17, 17)];
+    for (sealing, checking) in wrong {
+        let keys = scratch.key_file("keys", &vec![1; sealing], &vec![2; checking]);
+        refused(
+            &words!["write", file, "0", keys],
+            b"Vase",
+            &file,
+            1,
+            "wrong key",
+        );
+        refused(&words!["read", file, "0", keys], b"", &file, 1, "wrong key");
+        refused(&words!["verify", file, keys], b"", &file, 1, "wrong key");
+    }
+}
+
+#[test]
+fn twin_keys() {
+    let scratch = Scratch::new();
+    let file = scratch.sheet("sheet", 2, 4);
+    let keys = scratch.key_file("keys", &[7; 8], &[7; 8]);
+    refused(
+        &words!["write", file, "0", keys],
+        b"Vase",
+        &file,
+        2,
+        "twin keys",
+    );
+    refused(&words!["read", file, "0", keys], b"", &file, 2, "twin keys");
+    refused(&words!["verify", file, keys], b"", &file, 2, "twin keys");
+}
+
+#[test]
+fn wrong_span() {
+    let scratch = Scratch::new();
+    let file = scratch.sheet("sheet", 2, 4);
+    for slots in [
+        "0",
+        "257",
+        "65537",
+        "18446744073709551615",
+        "99999999999999999999999",
+    ] {
+        refused(
+            &words!["blank", file, slots, "64", "--force"],
+            b"",
+            &file,
+            3,
+            "wrong span",
+        );
+        let new = scratch.join("new");
+        run(&words!["blank", new, slots, "64"]).refused(3, "wrong span");
+        assert!(!new.exists());
+    }
+}
+
+#[test]
+fn unfit_sheet() {
+    let scratch = Scratch::new();
+    let (file, keys) = (scratch.join("sheet"), scratch.keys(8));
+    let sheet = blank_sheet(2, 4);
+    let largest = blank_sheet(256, 4);
+    let mut edition_2 = sheet.clone();
+    edition_2[3] = 2;
+    let longer = [&largest[..], b"\0"].concat();
+    for sheet in [
+        b"",
+        &sheet[..7],
+        &sheet[..423],
+        &edition_2,
+        &longer,
+        &[0; 1 << 20],
+    ] {
+        fs::write(&file, sheet).unwrap();
+        refused(
+            &words!["write", file, "0", keys],
+            b"Vase",
+            &file,
+            4,
+            "unfit sheet",
+        );
+        refused(
+            &words!["read", file, "0", keys],
+            b"",
+            &file,
+            4,
+            "unfit sheet",
+        );
+        refused(&words!["clear", file, "0"], b"", &file, 4, "unfit sheet");
+        refused(&words!["verify", file, keys], b"", &file, 4, "unfit sheet");
+    }
+}
+
+#[test]
+fn other_key_class() {
+    let scratch = Scratch::new();
+    let (file, keys) = (scratch.sheet("sheet", 2, 4), scratch.keys(12));
+    refused(
+        &words!["write", file, "0", keys],
+        b"Vase",
+        &file,
+        5,
+        "other key class",
+    );
+    refused(
+        &words!["read", file, "0", keys],
+        b"",
+        &file,
+        5,
+        "other key class",
+    );
+    refused(
+        &words!["verify", file, keys],
+        b"",
+        &file,
+        5,
+        "other key class",
+    );
+}
+
+#[test]
+fn no_such_slot() {
+    let scratch = Scratch::new();
+    let (file, keys) = (scratch.sheet("sheet", 2, 4), scratch.keys(8));
+    for slot in [
+        "2",
+        "256",
+        "65536",
+        "18446744073709551615",
+        "99999999999999999999999",
+    ] {
+        refused(
+            &words!["write", file, slot, keys],
+            b"Vase",
+            &file,
+            6,
+            "no such slot",
+        );
+        refused(
+            &words!["read", file, slot, keys],
+            b"",
+            &file,
+            6,
+            "no such slot",
+        );
+        refused(&words!["clear", file, slot], b"", &file, 6, "no such slot");
+    }
+}
+
+#[test]
+fn overlong() {
+    let scratch = Scratch::new();
+    let (file, keys) = (scratch.sheet("sheet", 2, 4), scratch.keys(8));
+    for length in [193, 194, 1000, 1 << 20] {
+        let caption = vec![b'x'; length];
+        refused(
+            &words!["write", file, "0", keys],
+            &caption,
+            &file,
+            7,
+            "overlong",
+        );
+    }
+    run_with(&words!["write", file, "0", keys], &[b'x'; 192]).done();
+}
+
+#[test]
+fn worn() {
+    let scratch = Scratch::new();
+    let (file, keys) = (scratch.join("sheet"), scratch.keys(8));
+    let mut sheet = blank_sheet(2, 4);
+    sheet[4..8].copy_from_slice(&4294967294_u32.to_be_bytes());
+    fs::write(&file, &sheet).unwrap();
+    run_with(&words!["write", file, "0", keys], b"Vase").done();
+    run(&words!["list", file])
+        .printed(b"slots 2 key 64 last 4294967295\n0 written 4294967295 4\n1 blank\n");
+    refused(
+        &words!["write", file, "1", keys],
+        b"Clock",
+        &file,
+        8,
+        "worn",
+    );
+    run(&words!["clear", file, "0"]).done();
+    run(&words!["read", file, "0", keys]).refused(9, "blank");
+}
+
+#[test]
+fn blank() {
+    let scratch = Scratch::new();
+    let (file, keys) = (scratch.sheet("sheet", 2, 4), scratch.keys(8));
+    refused(&words!["read", file, "0", keys], b"", &file, 9, "blank");
+}
+
+#[test]
+fn altered() {
+    let scratch = Scratch::new();
+    let (file, keys) = (scratch.join("sheet"), scratch.keys(8));
+    let sheet = written(&blank_sheet(2, 4), 8, 1, b"Clock");
+    let mark = 8 + 16;
+    let field = 8 + 32 + 192;
+    for place in [mark + 5, mark + 8, mark + 15, field, field + 191] {
+        let mut sheet = sheet.clone();
+        sheet[place] ^= 2;
+        fs::write(&file, &sheet).unwrap();
+        refused(&words!["read", file, "1", keys], b"", &file, 10, "altered");
+    }
+    // The keys the wrong way round; a slot moved to another place.
+    fs::write(&file, &sheet).unwrap();
+    let swapped = scratch.key_file("swapped", &CHECKING[..8], &SEALING[..8]);
+    refused(
+        &words!["read", file, "1", swapped],
+        b"",
+        &file,
+        10,
+        "altered",
+    );
+    let mut moved = blank_sheet(2, 4);
+    moved[4..8].copy_from_slice(&sheet[4..8]);
+    moved[8..24].copy_from_slice(&sheet[24..40]);
+    moved[40..232].copy_from_slice(&sheet[232..424]);
+    fs::write(&file, &moved).unwrap();
+    refused(&words!["read", file, "0", keys], b"", &file, 10, "altered");
+}

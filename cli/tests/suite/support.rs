@@ -1,0 +1,240 @@
+//! Scratch folders, keys, and running the command.
+
+use std::ffi::OsStr;
+use std::fs;
+use std::io::Write;
+use std::os::unix::fs::{MetadataExt, PermissionsExt};
+use std::os::unix::process::{CommandExt, ExitStatusExt};
+use std::path::{Path, PathBuf};
+use std::process::{Command, Output, Stdio};
+use std::sync::atomic::{AtomicUsize, Ordering};
+
+pub const PROGRAM: &str = env!("CARGO_BIN_EXE_captions");
+/// The temporary file's name, as the help text gives it.
+pub const TEMPORARY: &str = ".captions-new";
+
+pub const SEALING: [u8; 16] = *b"\x0d\x2a\x47\x64\x81\x9e\xbb\xd8\xf5\x12\x2f\x4c\x69\x86\xa3\xc0";
+pub const CHECKING: [u8; 16] = *b"\x10\x0f\x0e\x0d\x0c\x0b\x0a\x09\x08\x07\x06\x05\x04\x03\x02\x01";
+
+/// A folder of a test's own, removed at its end.
+pub struct Scratch(PathBuf);
+
+impl Scratch {
+    pub fn new() -> Scratch {
+        static COUNT: AtomicUsize = AtomicUsize::new(0);
+        let count = COUNT.fetch_add(1, Ordering::Relaxed);
+        let name = format!("captions-test-{}-{count}", std::process::id());
+        // Not in root's own folder, if that is what is set: nobody enters too.
+        let folder = if is_root() {
+            PathBuf::from("/tmp")
+        } else {
+            std::env::temp_dir()
+        };
+        let path = folder.join(name);
+        fs::create_dir(&path).unwrap();
+        Scratch(path.canonicalize().unwrap())
+    }
+
+    pub fn path(&self) -> &Path {
+        &self.0
+    }
+
+    pub fn join(&self, name: impl AsRef<Path>) -> PathBuf {
+        self.0.join(name)
+    }
+
+    /// The names in the folder, in order.
+    pub fn names(&self) -> Vec<String> {
+        names_in(&self.0)
+    }
+
+    /// A file of keys of this many bytes.
+    pub fn keys(&self, length: usize) -> PathBuf {
+        self.key_file(
+            &format!("keys-{length}"),
+            &SEALING[..length],
+            &CHECKING[..length],
+        )
+    }
+
+    /// A file of these two keys.
+    pub fn key_file(&self, name: &str, sealing: &[u8], checking: &[u8]) -> PathBuf {
+        let path = self.join(name);
+        fs::write(&path, format!("{}\n{}\n", hex(sealing), hex(checking))).unwrap();
+        path
+    }
+
+    /// A blank sheet's file, made by the second program.
+    pub fn sheet(&self, name: &str, slots: usize, key_words: usize) -> PathBuf {
+        let path = self.join(name);
+        fs::write(&path, blank_sheet(slots, key_words)).unwrap();
+        path
+    }
+}
+
+impl Drop for Scratch {
+    fn drop(&mut self) {
+        let _ = fs::set_permissions(&self.0, fs::Permissions::from_mode(0o700));
+        let _ = fs::remove_dir_all(&self.0);
+    }
+}
+
+pub fn names_in(folder: &Path) -> Vec<String> {
+    let entries = fs::read_dir(folder).unwrap();
+    let mut names: Vec<String> = entries
+        .map(|entry| entry.unwrap().file_name().into_string().unwrap())
+        .collect();
+    names.sort();
+    names
+}
+
+pub fn hex(bytes: &[u8]) -> String {
+    bytes.iter().map(|byte| format!("{byte:02x}")).collect()
+}
+
+pub fn blank_sheet(slots: usize, key_words: usize) -> Vec<u8> {
+    let mut sheet = vec![0; 8 + 208 * slots];
+    assert_eq!(reference::blank(&mut sheet, slots, key_words).number, 0);
+    sheet
+}
+
+/// A sheet as a write by the second program leaves it.
+pub fn written(sheet: &[u8], key_len: usize, slot: usize, caption: &[u8]) -> Vec<u8> {
+    let mut sheet = sheet.to_vec();
+    let (sealing, checking) = (&SEALING[..key_len], &CHECKING[..key_len]);
+    let answer = reference::write(sealing, checking, &mut sheet, slot, caption);
+    assert_eq!(answer.number, 0);
+    sheet
+}
+
+/// A sheet as a clear by the second program leaves it.
+pub fn cleared(sheet: &[u8], slot: usize) -> Vec<u8> {
+    let mut sheet = sheet.to_vec();
+    assert_eq!(reference::clear(&mut sheet, slot).number, 0);
+    sheet
+}
+
+/// What a run of the command came to.
+#[derive(Debug, PartialEq, Eq)]
+pub struct Run {
+    /// The exit status, or minus the signal that ended it.
+    pub status: i32,
+    pub stdout: Vec<u8>,
+    pub stderr: String,
+}
+
+impl Run {
+    pub fn of(output: Output) -> Run {
+        let killed_by = || output.status.signal().map(|signal| -signal);
+        Run {
+            status: output.status.code().or_else(killed_by).unwrap(),
+            stdout: output.stdout,
+            stderr: String::from_utf8(output.stderr).unwrap(),
+        }
+    }
+
+    /// Done, with this on standard output and nothing on standard error.
+    #[track_caller]
+    pub fn printed(self, stdout: &[u8]) {
+        assert_eq!((self.status, self.stderr.as_str()), (0, ""));
+        assert_eq!(self.stdout, stdout);
+    }
+
+    /// Done in silence.
+    #[track_caller]
+    pub fn done(self) {
+        self.printed(b"");
+    }
+
+    /// Refused: number and word alone.
+    #[track_caller]
+    pub fn refused(self, number: i32, word: &str) {
+        assert_eq!(self.stderr, format!("{number} {word}\n"));
+        assert_eq!((self.status, self.stdout.as_slice()), (number, &b""[..]));
+    }
+
+    /// Failed with this exit status and a message that has these words.
+    #[track_caller]
+    pub fn failed(self, status: i32, words: &str) {
+        assert_eq!(self.status, status, "{}", self.stderr);
+        assert!(self.stderr.starts_with("captions: "), "{}", self.stderr);
+        assert!(self.stderr.contains(words), "{}", self.stderr);
+        assert!(self.stdout.is_empty());
+    }
+}
+
+/// Runs the command with this standard input.
+pub fn run_with<W: AsRef<OsStr>>(words: &[W], stdin: &[u8]) -> Run {
+    let mut command = Command::new(PROGRAM);
+    command.args(words);
+    run_command(command, stdin)
+}
+
+pub fn run<W: AsRef<OsStr>>(words: &[W]) -> Run {
+    run_with(words, b"")
+}
+
+/// Words of several types, as the command takes them.
+#[macro_export]
+macro_rules! words {
+    ($($word:expr),* $(,)?) => { [$(std::ffi::OsString::from(&$word)),*] };
+}
+
+pub fn run_command(mut command: Command, stdin: &[u8]) -> Run {
+    let mut child = command
+        .stdin(Stdio::piped())
+        .stdout(Stdio::piped())
+        .stderr(Stdio::piped())
+        .spawn()
+        .unwrap();
+    // The command may end, or stop reading, before a long input does.
+    let _ = child.stdin.take().unwrap().write_all(stdin);
+    Run::of(child.wait_with_output().unwrap())
+}
+
+/// Whether the tests run as root, whom permission bits don't bind.
+pub fn is_root() -> bool {
+    fs::metadata("/proc/self").unwrap().uid() == 0
+}
+
+/// The command as a user whom permission bits bind: where the tests run as
+/// root, as nobody, from a copy that nobody may run. The folder becomes that
+/// user's, and what is in it too.
+pub fn unprivileged(scratch: &Scratch) -> Command {
+    if !is_root() {
+        return Command::new(PROGRAM);
+    }
+    const NOBODY: u32 = 65534;
+    let own = |path: &Path| std::os::unix::fs::chown(path, Some(NOBODY), Some(NOBODY)).unwrap();
+    let copy = scratch.join("captions");
+    if !copy.exists() {
+        // By another process: a program that this one has open for writing, if
+        // only in a child that another thread is starting, can't be run.
+        let status = Command::new("cp").arg(PROGRAM).arg(&copy).status();
+        assert!(status.unwrap().success());
+    }
+    own(scratch.path());
+    for name in scratch.names() {
+        own(&scratch.join(name));
+    }
+    let mut command = Command::new(copy);
+    command.uid(NOBODY).gid(NOBODY);
+    command
+}
+
+/// A small seeded generator (splitmix64).
+pub struct Random(pub u64);
+
+impl Random {
+    pub fn next(&mut self) -> u64 {
+        self.0 = self.0.wrapping_add(0x9e3779b97f4a7c15);
+        let mut z = self.0;
+        z = (z ^ (z >> 30)).wrapping_mul(0xbf58476d1ce4e5b9);
+        z = (z ^ (z >> 27)).wrapping_mul(0x94d049bb133111eb);
+        z ^ (z >> 31)
+    }
+
+    pub fn below(&mut self, bound: u64) -> u64 {
+        self.next() % bound
+    }
+}

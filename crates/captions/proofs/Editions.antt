@@ -1,0 +1,35 @@
+-- The editions of sheets meet what the theorem about lists asks, and a sheet's edition lies in header bytes that a call keeps.
+use Prim.Native.Nat.{ℕ}
+use mathlib.Core.Path.{_≡_, refl, ap}
+use mathlib.Core.Bool.{true}
+use mathlib.Core.List.{List}
+use native.Mathlib.Omega.{arith}
+use Rattle.octets.specs.Bytes.{number}
+use Rattle.octets.proofs.Bool.{and-left}
+use Rattle.cipher.specs.Key.{classKnown}
+use Rattle.layout.specs.Layout.{edition1, rule1, editionOf, editionByte, keyClass, fit}
+use Rattle.captions.specs.Claim.{SameHeader, Regular}
+use Rattle.captions.proofs.Store.{keyClass-kept}
+use Rattle.captions.proofs.Fitted.{fit-rules}
+
+editionByte-kept : {h : ℕ} {s s′ : List ℕ} → SameHeader h s s′ → editionByte s ≡ editionByte s′
+unfolding editionByte
+editionByte-kept k = ap number (k .low 3 1 (omega arith))
+
+edition1-regular : Regular edition1
+unfolding rule1
+edition1-regular =
+    record { header-size = omega arith; rule-kept = λ s s′ h. rw (keyClass-kept h, editionByte-kept h); tail-kept = λ s s′ h. refl }
+
+pub editions-regular : (s : List ℕ) → Regular (editionOf s)
+unfolding editionOf
+editions-regular s = edition1-regular
+
+pub edition-kept : (s s′ : List ℕ) → SameHeader ((editionOf s) .header) s s′ → editionOf s ≡ editionOf s′
+unfolding editionOf
+edition-kept s s′ h = refl
+
+-- the class of a fit sheet is known
+pub fit-class : (s : List ℕ) → fit s ≡ true → classKnown (keyClass s) ≡ true
+unfolding fit editionOf rule1
+fit-class s h = and-left (classKnown (keyClass s)) _ ((fit-rules edition1 s h) .rule)

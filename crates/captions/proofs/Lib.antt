@@ -1,0 +1,11 @@
+pub mod Tables
+pub mod Store
+pub mod Fitted
+pub mod Slot
+pub mod Effect
+pub mod Runs
+pub mod Simulation
+pub mod Editions
+pub mod Agree
+pub mod ReadBack
+pub mod BlankSheets

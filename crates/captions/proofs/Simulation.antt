@@ -1,0 +1,158 @@
+-- A sheet follows the plain model: a relation between a sheet's bytes and a model that each call keeps, then any list of calls.
+use Prim.Native.Nat.{ℕ, _+_, _<_}
+use mathlib.Core.Path.{_≡_, refl, sym, ap, _∙_, subst}
+use mathlib.Core.Bool.{not}
+use mathlib.Core.List.{List, [], _∷_, _++_}
+use native.Mathlib.Decide.{ℕ-discrete}
+use native.Mathlib.Omega.{arith}
+use lib.Arith.{lt-of-le-ne}
+use lib.Dec.{leb, ltb, eqb}
+use lib.ListN.{length, getD, set, length-set, length-replicate, getD-replicate}
+use lib.Seq.{getD-set-same, getD-set-other}
+use borrow.Author.Tests.{leb-false, ltb-false, eqb-false}
+use Rattle.octets.specs.Bytes.{Bytes}
+use Rattle.octets.specs.Outcome.{Outcome, _gives_}
+use Rattle.layout.specs.Layout.{Edition, slots, lastWrite, fitIn}
+use Rattle.captions.specs.Answers.{answerNumber, answerLength, outcome}
+use Rattle.captions.specs.Captions.{Keys, Ciphers, written, cleared}
+use Rattle.captions.specs.Calls.{keyTests, otherClass, sheetTests, writeTests, clearTests, writingWith, clearingWith, readingWith}
+use Rattle.captions.specs.Runs.{Reply, finally}
+use Rattle.captions.specs.Model.{Call, writes, clears, Page, blank, holds, Model, newModel, page, answered, modelStep}
+use Rattle.captions.specs.Claim.{stepped, stepWith, Captions, none, write, clear, shown, SameHeader, Regular, Sound, Fits, SheetsFollowModel}
+use Rattle.captions.specs.declared.Answer.{Answer}
+use Rattle.captions.specs.declared.Answer.the-variants.{Accepted, UnfitSheet, OtherKeyClass, NoSuchSlot, Overlong, Worn}
+use Rattle.captions.proofs.Runs.{Every, done, more, same-replies, related-finally}
+use Rattle.captions.proofs.Tables.{end, next, unmet-append, past-rows, row-beside, rows-end}
+use Rattle.captions.proofs.Store.{header-refl, header-trans, slots-kept}
+use Rattle.captions.proofs.Fitted.{unused-blank}
+use Rattle.captions.proofs.Effect.{Effect, rules, keys-passed, class-passed, last-small, blank-read, clear-effect, write-effect}
+
+-- ---- a sheet and a model
+
+-- the sheet s, come from s₀, shows the model m
+pub record Shows (e : Edition) (x : Ciphers) (k : Keys) (s₀ s : List ℕ) (m : Model) : Type 0 where
+  pub fits : Fits e k s
+  pub header : SameHeader (e .header) s₀ s
+  pub last : lastWrite s ≡ m .count
+  pub pages : length (m .pages) ≡ slots s
+  pub slot : (i : ℕ) → i < slots s → (window : List ℕ) → length window ≡ 192 → readingWith e x k s i window ≡ shown (page m i)
+
+-- an outcome, and what the model came to
+record Follows (e : Edition) (x : Ciphers) (k : Keys) (s₀ : List ℕ) (o : Outcome) (p : Reply × Model) : Type 0 where
+  reply : (stepped o) .0 ≡ p .0
+  shows : Shows e x k s₀ (o .bytes) (p .1)
+
+-- a caption is bytes
+abbrev pub CallBytes : Call → Type 0
+CallBytes (writes i c) = Bytes c
+CallBytes (clears i) = Unit {0}
+
+every-caption : {calls : List Call} → Captions calls → Every CallBytes calls
+every-caption none = done
+every-caption (write b h) = more b (every-caption h)
+every-caption (clear h) = more tt (every-caption h)
+
+module _ (e : Edition) (reg : Regular e) (x : Ciphers) (ok : Sound x) (k : Keys) (s₀ s : List ℕ) (m : Model) (r : Shows e x k s₀ s m) where
+  refused : (a : Answer) (n : ℕ) → answerNumber a ≡ n → answerLength a ≡ 0 → Follows e x k s₀ (outcome a s) (answered n, m)
+  unfolding outcome answered
+  refused a n p q = record { reply = λ i. record { number = p i; len = q i }; shows = r }
+
+  accepted : (s′ : List ℕ) (m′ : Model) → Shows e x k s₀ s′ m′ → Follows e x k s₀ (outcome (Accepted 0) s′) (answered 0, m′)
+  unfolding outcome answered answerNumber answerLength
+  accepted s′ m′ h = record { reply = refl; shows = h }
+
+  -- the effect on the sheet is the change of the model
+  effect-shows : (j w : ℕ) (p : Page) (s′ : List ℕ) → j < slots s → Effect e x k j w p s s′
+      → Shows e x k s₀ s′ (record { pages = set (m .pages) j p; count = w })
+  unfolding page
+  effect-shows j w p s′ h f =
+      record {
+        fits = f .fits;
+        header = header-trans (r .header) (f .header);
+        last = f .last;
+        pages = length-set (m .pages) j p ∙ r .pages ∙ slots-kept (f .header);
+        slot = λ i l. go i (omega (arith, slots-kept (f .header))) (ℕ-discrete i j);
+      }
+    where
+      go : (i : ℕ) → i < slots s → Dec (i ≡ j) → (window : List ℕ) → length window ≡ 192
+          → readingWith e x k s′ i window ≡ shown (getD (set (m .pages) j p) i blank)
+      go i l (yes t) window lw = rw (t, getD-set-same (m .pages) j p blank (omega (arith, r .pages))) (f .at window lw)
+      go i l (no t) window lw = rw (getD-set-other (m .pages) j i p blank t) (f .others i l t window lw ∙ r .slot i l window lw)
+
+  -- the tests that the sheet and the model make alike
+  slot-test : (i : ℕ) → leb (slots s) i ≡ leb (length (m .pages)) i
+  slot-test i = ap (λ (n : ℕ). leb n i) (sym (r .pages))
+
+  worn-test : eqb (lastWrite s) 4294967295 ≡ eqb (m .count) 4294967295
+  worn-test = ap (λ (n : ℕ). eqb n 4294967295) (r .last)
+
+  clear-follows : (i : ℕ) → Follows e x k s₀ (clearingWith e s i) (modelStep (clears i) m)
+  unfolding clearingWith clearTests modelStep answerNumber answerLength
+  clear-follows i =
+      past-rows (Follows e x k s₀) ((not (fitIn e s) gives UnfitSheet) ∷ []) _ _ _ _ (next (ap not (r .fits .fits)) end)
+      (row-beside (Follows e x k s₀) (leb (slots s) i) (leb (length (m .pages)) i) NoSuchSlot _ _ _ _ _ (slot-test i) (refused NoSuchSlot 6 refl refl) λ t₆.
+      let h : i < slots s = omega (arith, leb-false (length (m .pages)) i t₆, r .pages) in
+      rows-end (Follows e x k s₀) _ _ _ (accepted (cleared e s i) _ (effect-shows i (m .count) blank (cleared e s i) h
+      (subst (λ (n : ℕ). Effect e x k i n blank s (cleared e s i)) (r .last) (clear-effect e reg k s (r .fits) x i h)))))
+
+  write-follows : (i : ℕ) (c : List ℕ) → Bytes c → Follows e x k s₀ (writingWith e x k s i c) (modelStep (writes i c) m)
+  unfolding writingWith writeTests keyTests sheetTests modelStep answerNumber answerLength
+  write-follows i c bc =
+      past-rows (Follows e x k s₀) (keyTests k ++ ((not (fitIn e s) gives UnfitSheet) ∷ (otherClass k s gives OtherKeyClass) ∷ [])) _ _ _ _
+      (unmet-append (keys-passed e k s (r .fits)) (next (ap not (r .fits .fits)) (next (class-passed e k s (r .fits)) end)))
+      (row-beside (Follows e x k s₀) (leb (slots s) i) (leb (length (m .pages)) i) NoSuchSlot _ _ _ _ _ (slot-test i) (refused NoSuchSlot 6 refl refl) λ t₆.
+      row-beside (Follows e x k s₀) (ltb 192 (length c)) (ltb 192 (length c)) Overlong _ _ _ _ _ refl (refused Overlong 7 refl refl) λ t₇.
+      row-beside (Follows e x k s₀) (eqb (lastWrite s) 4294967295) (eqb (m .count) 4294967295) Worn _ _ _ _ _ worn-test (refused Worn 8 refl refl) λ t₈.
+      let h : i < slots s = omega (arith, leb-false (length (m .pages)) i t₆, r .pages) in
+      let left : lastWrite s < 4294967295 = lt-of-le-ne (last-small e k s (r .fits)) (λ q. eqb-false (m .count) 4294967295 t₈ (sym (r .last) ∙ q)) in
+      rows-end (Follows e x k s₀) _ _ _ (accepted (written x e s i c) _ (effect-shows i (m .count + 1) (holds c) (written x e s i c) h
+      (subst (λ (n : ℕ). Effect e x k i (n + 1) (holds c) s (written x e s i c)) (r .last)
+      (write-effect e reg k s (r .fits) x ok i c h (ltb-false 192 (length c) t₇) bc left)))))
+
+  same-reply : (c : Call) → CallBytes c → (stepWith e x k c s) .0 ≡ (modelStep c m) .0
+  unfolding stepWith
+  same-reply (writes i c) b = (write-follows i c b) .reply
+  same-reply (clears i) b = (clear-follows i) .reply
+
+  call-shows : (c : Call) → CallBytes c → Shows e x k s₀ ((stepWith e x k c s) .1) ((modelStep c m) .1)
+  unfolding stepWith
+  call-shows (writes i c) b = (write-follows i c b) .shows
+  call-shows (clears i) b = (clear-follows i) .shows
+
+-- ---- a blank sheet shows the new model
+
+module _ (e : Edition) (x : Ciphers) (k : Keys) (s : List ℕ) (g : Fits e k s) (unused : lastWrite s ≡ 0) where
+  new-shows : Shows e x k s s (newModel (slots s))
+  unfolding newModel page
+  new-shows =
+      record {
+        fits = g;
+        header = header-refl (e .header) s;
+        last = unused;
+        pages = length-replicate (slots s) blank;
+        slot = λ i h window l. rw (getD-replicate (slots s) i blank blank h) (blank-read e k s g x i window h l (unused-blank e s (rules e k s g) unused i h));
+      }
+
+-- ---- the theorem
+
+pub sheets-follow-model : SheetsFollowModel
+sheets-follow-model e x k step s calls reg ok g unused cap is =
+    record {
+      answers = same-replies step modelStep CallBytes (Shows e x k s) replied kept s (newModel (slots s)) (every-caption cap) first;
+      last = final .last;
+      fits = final .fits;
+      header = final .header;
+      reads = λ i window h. final .slot i (omega (arith, slots-kept (final .header))) window;
+    }
+  where
+    first : Shows e x k s s (newModel (slots s))
+    first = new-shows e x k s g unused
+
+    replied : (c : Call) (s′ : List ℕ) (m : Model) → CallBytes c → Shows e x k s s′ m → (step c s′) .0 ≡ (modelStep c m) .0
+    replied c s′ m b r = rw (is c s′ (r .header)) (same-reply e reg x ok k s s′ m r c b)
+
+    kept : (c : Call) (s′ : List ℕ) (m : Model) → CallBytes c → Shows e x k s s′ m → Shows e x k s ((step c s′) .1) ((modelStep c m) .1)
+    kept c s′ m b r = rw (is c s′ (r .header)) (call-shows e reg x ok k s s′ m r c b)
+
+    final : Shows e x k s (finally step calls s) (finally modelStep calls (newModel (slots s)))
+    final = related-finally step modelStep CallBytes (Shows e x k s) replied kept s (newModel (slots s)) (every-caption cap) first

@@ -1,0 +1,6 @@
+pub mod Answers
+pub mod Captions
+pub mod Calls
+pub mod Runs
+pub mod Model
+pub mod Claim

@@ -1,0 +1,139 @@
+// What C and Rust link: each call behind its C name, its answer as a number and a length.
+ghost use mathlib.Core.Path.{_≡_};
+ghost use mathlib.Core.List.{List};
+ghost use Prim.Native.Nat.{ℕ};
+ghost use Rattle.mcrypton.specs.Calls.{blockOutcome, encrypting, decrypting};
+ghost use Rattle.modes.specs.Answers.{macOutcome, authenticating};
+ghost use Rattle.captions.specs.Answers.{outcome};
+ghost use Rattle.captions.specs.Calls.{blanking, writing, clearing, reading};
+ghost use Rattle.sheet.specs.Inner.{pair};
+ghost use Rattle.captions_c.specs.Answer.{crossed};
+
+#[repr(C)]
+pub struct Answer {
+    pub number: u8,
+    pub length: u16,
+}
+
+// A number alone: the length is 0.
+fn numbered(number: u8) -> Answer
+    ensures { λ r. ⌜ (r .number ≡ number) × (r .length ≡ 0) ⌝ }
+{
+    Answer { number, length: 0 }
+}
+
+fn block_answer(a: mcrypton::BlockAnswer) -> Answer
+    ensures { λ r. ⌜ ((x : List ℕ) → crossed r x ≡ blockOutcome a x) ⌝ }
+{
+    match a {
+        mcrypton::BlockAnswer::Accepted => numbered(0),
+        mcrypton::BlockAnswer::WrongKey => numbered(1),
+        mcrypton::BlockAnswer::WrongSpan => numbered(3),
+    }
+}
+
+fn mac_answer(a: modes::MacAnswer) -> Answer
+    ensures { λ r. ⌜ ((x : List ℕ) → crossed r x ≡ macOutcome a x) ⌝ }
+{
+    match a {
+        modes::MacAnswer::Accepted => numbered(0),
+        modes::MacAnswer::WrongKey => numbered(1),
+        modes::MacAnswer::WrongSpan => numbered(3),
+    }
+}
+
+fn sheet_answer(a: captions::Answer) -> Answer
+    ensures { λ r. ⌜ ((x : List ℕ) → crossed r x ≡ outcome a x) ⌝ }
+{
+    match a {
+        captions::Answer::Accepted(length) => Answer { number: 0, length },
+        captions::Answer::WrongKey => numbered(1),
+        captions::Answer::TwinKeys => numbered(2),
+        captions::Answer::WrongSpan => numbered(3),
+        captions::Answer::UnfitSheet => numbered(4),
+        captions::Answer::OtherKeyClass => numbered(5),
+        captions::Answer::NoSuchSlot => numbered(6),
+        captions::Answer::Overlong => numbered(7),
+        captions::Answer::Worn => numbered(8),
+        captions::Answer::Blank => numbered(9),
+        captions::Answer::Altered => numbered(10),
+    }
+}
+
+#[no_mangle]
+pub extern "C" fn captions_encrypt_block(
+    key: &[u8],
+    block: &[u8],
+    path: u16,
+    out: &mut [u8],
+) -> Answer
+    ensures { λ r. ⌜ crossed r (now (out .exit)) ≡ encrypting path (now (key .entry)) (now (block .entry)) (now (out .entry)) ⌝ }
+{
+    let a = mcrypton::encrypt_block(key, block, path, out);
+    block_answer(a)
+}
+
+#[no_mangle]
+pub extern "C" fn captions_decrypt_block(
+    key: &[u8],
+    block: &[u8],
+    path: u16,
+    out: &mut [u8],
+) -> Answer
+    ensures { λ r. ⌜ crossed r (now (out .exit)) ≡ decrypting path (now (key .entry)) (now (block .entry)) (now (out .entry)) ⌝ }
+{
+    let a = mcrypton::decrypt_block(key, block, path, out);
+    block_answer(a)
+}
+
+#[no_mangle]
+pub extern "C" fn captions_cmac(key: &[u8], message: &[u8], out: &mut [u8]) -> Answer
+    ensures { λ r. ⌜ crossed r (now (out .exit)) ≡ authenticating (now (key .entry)) (now (message .entry)) (now (out .entry)) ⌝ }
+{
+    let a = modes::cmac(key, message, out);
+    mac_answer(a)
+}
+
+#[no_mangle]
+pub extern "C" fn captions_blank(sheet: &mut [u8], slots: usize, words: usize) -> Answer
+    ensures { λ r. ⌜ crossed r (now (sheet .exit)) ≡ blanking (now (sheet .entry)) slots words ⌝ }
+{
+    let a = sheet::blank(sheet, slots, words);
+    sheet_answer(a)
+}
+
+#[no_mangle]
+pub extern "C" fn captions_write(
+    sealing: &[u8],
+    checking: &[u8],
+    sheet: &mut [u8],
+    slot: usize,
+    caption: &[u8],
+) -> Answer
+    ensures { λ r. ⌜ crossed r (now (sheet .exit)) ≡ writing (pair (now (sealing .entry)) (now (checking .entry))) (now (sheet .entry)) slot (now (caption .entry)) ⌝ }
+{
+    let a = sheet::write(sealing, checking, sheet, slot, caption);
+    sheet_answer(a)
+}
+
+#[no_mangle]
+pub extern "C" fn captions_clear(sheet: &mut [u8], slot: usize) -> Answer
+    ensures { λ r. ⌜ crossed r (now (sheet .exit)) ≡ clearing (now (sheet .entry)) slot ⌝ }
+{
+    let a = sheet::clear(sheet, slot);
+    sheet_answer(a)
+}
+
+#[no_mangle]
+pub extern "C" fn captions_read(
+    sealing: &[u8],
+    checking: &[u8],
+    sheet: &[u8],
+    slot: usize,
+    window: &mut [u8],
+) -> Answer
+    ensures { λ r. ⌜ crossed r (now (window .exit)) ≡ reading (pair (now (sealing .entry)) (now (checking .entry))) (now (sheet .entry)) slot (now (window .entry)) ⌝ }
+{
+    let a = sheet::read(sealing, checking, sheet, slot, window);
+    sheet_answer(a)
+}

@@ -1,0 +1,4 @@
+pub mod Ciphers
+pub mod Demand2
+pub mod Demand3
+pub mod Premises

@@ -1,0 +1,4 @@
+pub mod Header
+pub mod Slots
+pub mod Fits
+pub mod Stores

@@ -1,0 +1,16 @@
+-- `layout::header_rule` meets its contract.
+use borrow.Author.Needs.{needs}
+use borrow.Author.Tests.{not-true, not-false}
+use Rattle.layout.proofs.Header.{rule-class, rule-edition}
+use Rattle.layout.proofs.header_rule.Statement.{statement}
+use Rattle.layout.proofs.header_rule.Tie as tie
+
+pub header-rule-spec : {M : Type 1} → statement M
+header-rule-spec =
+    tie.close
+    (tie.spec
+    (λ c κs. search needs)
+    (λ c κs. search needs)
+    (λ c. search (rule-class, not-true))
+    (λ c κs. search needs)
+    (λ c. search (rule-edition, not-false)))

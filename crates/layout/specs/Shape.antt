@@ -1,0 +1,29 @@
+-- What the code keeps of a sheet's header while it works: the contracts of inner functions speak of it.
+use Prim.Native.Nat.{ℕ, _≤_, _<_}
+use mathlib.Core.Path.{_≡_}
+use mathlib.Core.List.{List}
+use lib.ListN.{length}
+use Rattle.layout.specs.Layout.{editionOf, slots, keyClass, sheetSize}
+use Rattle.layout.specs.declared.Shape.{Shape}
+
+unfoldable pub shapeOf : List ℕ → Shape
+shapeOf s =
+    record {
+      header = (editionOf s) .header;
+      slots = slots s;
+      class = keyClass s;
+      tail = (editionOf s) .tail s;
+    }
+
+-- h is the shape of the sheet s, whose length is right; the bounds hold of every fit sheet and keep places in range
+pub record SheetOf (s : List ℕ) (h : Shape) : Type 0 where
+  pub shape : h ≡ shapeOf s
+  pub size : length s ≡ sheetSize (h .header) (h .slots)
+  pub small : (h .header ≤ 16) × (h .slots ≤ 256)
+
+-- slot i of the sheet s, whose shape is h: where its mark and its field lie is inside the sheet
+pub record SlotIn (s : List ℕ) (h : Shape) (i : ℕ) : Type 0 where
+  pub shape : h ≡ shapeOf s
+  pub size : length s ≡ sheetSize (h .header) (h .slots)
+  pub small : (h .header ≤ 16) × (h .slots ≤ 256)
+  pub below : i < h .slots

@@ -1,0 +1,62 @@
+-- One turn of the loops that encrypt and decrypt, for any step of the register and any key made from it.
+use mathlib.Core.Path.{_≡_, refl, sym, ap, ap₂, _∙_}
+use mathlib.Core.List.{List}
+use Prim.Native.Nat.{ℕ, zero, suc, _+_, _≤_}
+use native.Mathlib.Numerals.{add-one}
+use native.Mathlib.Omega.{arith}
+use Rattle.rounds.specs.Array.{φ, σ, wordRound}
+use Rattle.rounds.specs.declared.Direction.{Direction}
+use Rattle.rounds.proofs.Paths.{same-round}
+use Rattle.schedule.specs.Schedule.{times}
+use Rattle.schedule.specs.declared.Register.{Register}
+use Rattle.mcrypton.specs.Cipher.{pathRound, after, steps}
+use Rattle.mcrypton.proofs.Paths.{any-path}
+
+-- r rounds from the array a
+pub onward : Direction → ℕ → (ℕ → List ℕ) → List ℕ → ℕ → List ℕ
+onward d p keys a zero = a
+onward d p keys a (suc r) = pathRound d p (suc r) (keys (suc r)) (onward d p keys a r)
+
+onward-after : (d : Direction) (p : ℕ) (keys : ℕ → List ℕ) (b : List ℕ) (r : ℕ) → onward d p keys (σ (keys 0) b) r ≡ after d p keys b r
+unfolding onward after
+onward-after d p keys b zero = refl
+onward-after d p keys b (suc r) = ap (pathRound d p (suc r) (keys (suc r))) (onward-after d p keys b r)
+
+module _ (d : Direction) (p : ℕ) (step : Register → Register) (key : Register → List ℕ) (u : Register) (a₀ : List ℕ) where
+  -- v is the register after r steps, and a the array after r rounds from a₀
+  pub record At (r : ℕ) (v : Register) (a : List ℕ) : Type 0 where
+    pub register : v ≡ times r step u
+    pub array : a ≡ onward d p (λ n. key (times n step u)) a₀ r
+
+  pub begun : At 0 u a₀
+  unfolding times onward
+  begun = record { register = refl; array = refl }
+
+  pub one-more : {v v′ : Register} {k a a′ : List ℕ} (r : ℕ) → At r v a → v′ ≡ step v → k ≡ key v′ → a′ ≡ pathRound d p (r + 1) k a
+      → At (r + 1) v′ a′
+  unfolding times onward
+  one-more r h e i g =
+      let f = e ∙ ap step (h .register) in
+      rw add-one
+      (record {
+        register = f;
+        array = rw add-one at g ∙ ap₂ (pathRound d p (suc r)) (i ∙ ap key f) (h .array);
+      })
+
+  -- after the loop, where a₀ is the sum of the block b and round key 0
+  pub ended : {v : Register} {k a z : List ℕ} (b : List ℕ) (r : ℕ) → r ≤ 12 → 12 ≤ r → At r v a → k ≡ key u → a₀ ≡ σ k b → z ≡ φ a
+      → z ≡ steps d p (λ n. key (times n step u)) b
+  unfolding steps times
+  ended b r l g h i j e =
+      e
+      ∙ ap φ
+      (h .array
+      ∙ ap₂ (onward d p (λ n. key (times n step u))) (j ∙ ap (λ (x : List ℕ). σ x b) i) twelve
+      ∙ onward-after d p (λ n. key (times n step u)) b 12)
+    where
+      twelve : r ≡ 12
+      twelve = omega arith
+
+-- a round by words is a round by any path
+pub by-words : (d : Direction) (p r : ℕ) (k a : List ℕ) {a′ : List ℕ} → a′ ≡ wordRound d k a → a′ ≡ pathRound d p r k a
+by-words d p r k a e = e ∙ same-round d k a ∙ sym (any-path d p r k a)

@@ -1,0 +1,45 @@
+-- Any two path numbers give the same array after every round.
+use mathlib.Core.Path.{_≡_, refl, sym, ap, _∙_}
+use mathlib.Core.Bool.{Bool, true, false}
+use mathlib.Core.List.{List}
+use Prim.Native.Nat.{ℕ, zero, suc, _+_, _-_, _/_, _%_, _^_, _≤_, _<_}
+use native.Mathlib.Omega.{arith}
+use lib.Dec.{eqb}
+use lib.Pow.{field, mod-mod-pow}
+use Rattle.octets.specs.Bytes.{if_then_else_}
+use Rattle.rounds.specs.Array.{nibbleRound, wordRound, φ}
+use Rattle.rounds.specs.declared.Direction.{Direction}
+use Rattle.rounds.proofs.Paths.{same-round}
+use Rattle.mcrypton.specs.Cipher.{byWords, pathRound, after, steps}
+
+either : (t : Bool) {x y : List ℕ} → x ≡ y → (if t then x else y) ≡ y
+either true e = e
+either false e = refl
+
+pub any-path : (d : Direction) (p r : ℕ) (k a : List ℕ) → pathRound d p r k a ≡ nibbleRound d k a
+unfolding pathRound
+any-path d p r k a = either (byWords p r) (same-round d k a)
+
+pub same-after : (d : Direction) (p q : ℕ) (keys : ℕ → List ℕ) (b : List ℕ) (r : ℕ) → after d p keys b r ≡ after d q keys b r
+unfolding after
+same-after d p q keys b zero = refl
+same-after d p q keys b (suc r) =
+    any-path d p (suc r) (keys (suc r)) (after d p keys b r)
+    ∙ ap (nibbleRound d (keys (suc r))) (same-after d p q keys b r)
+    ∙ sym (any-path d q (suc r) (keys (suc r)) (after d q keys b r))
+
+pub same-steps : (d : Direction) (p q : ℕ) (keys : ℕ → List ℕ) (b : List ℕ) → steps d p keys b ≡ steps d q keys b
+unfolding steps
+same-steps d p q keys b = rw (same-after d p q keys b 12)
+
+-- only the twelve low bits choose
+pub low-bits : (p r : ℕ) → 0 < r → r ≤ 12 → byWords (p % 4096) r ≡ byWords p r
+unfolding byWords
+low-bits p r h l =
+    ap (λ (x : ℕ). eqb x 1)
+    (ap (λ (m : ℕ). p % 2 ^ m / 2 ^ (r - 1) % 2) (width r h l)
+    ∙ ap (λ (x : ℕ). x % 2) (field p (12 - r + 1) (r - 1))
+    ∙ mod-mod-pow (p / 2 ^ (r - 1)) (12 - r) 1)
+  where
+    width : (r : ℕ) → 0 < r → r ≤ 12 → 12 ≡ 12 - r + 1 + (r - 1)
+    width r h l = omega arith

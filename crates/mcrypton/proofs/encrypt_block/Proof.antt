@@ -1,0 +1,40 @@
+use borrow.Author.Tests.{not-true, not-false}
+use mathlib.Core.Path.{ap, _∙_}
+use Rattle.schedule.specs.Schedule.{start, backStart, register, encryptionKey}
+use Rattle.mcrypton.specs.Bytes.{wordsOf, encryptBytes}
+use Rattle.mcrypton.specs.Cipher.{encryptBlock}
+use Rattle.mcrypton.specs.Registers.{encryptFrom}
+use Rattle.schedule.specs.declared.Register.{Register}
+use Rattle.mcrypton.specs.Calls.{encrypting}
+use Rattle.mcrypton.proofs.Calls.{wrong-key, wrong-block, wrong-output, accepted, through-words}
+use borrow.Author.Needs.{needs}
+use Rattle.mcrypton.proofs.encrypt_block.Statement.{statement}
+use Rattle.mcrypton.proofs.encrypt_block.Tie as tie
+
+returns : tie.Need-returns
+unfolding encrypting
+returns c = search (wrong-key, not-true)
+
+returns-2 : tie.Need-returns-2
+unfolding encrypting
+returns-2 c = search (wrong-block, not-false)
+
+returns-3 : tie.Need-returns-3
+unfolding encrypting
+returns-3 c = search (wrong-output, not-false)
+
+encrypt-by-path-requires : tie.Need-encrypt-by-path-requires
+unfolding start
+encrypt-by-path-requires c κs = ap (λ (u : Register). u .round) (c .start .ensures)
+
+returns-4 : tie.Need-returns-4
+unfolding encrypting encryptBytes encryptBlock encryptFrom encryptionKey register
+returns-4 c = let s = c .before .before .before .before .before .before .before .before .before .before .before .before .before .before .before .args in
+    accepted (s .key .now) (s .block .now) (s .out .now) _ _ (c .before .before .before .before .before .before .before .before .before .before .before .key-length .ensures) (not-false _ (c .before .before .before .before .before .before .before .before .before .before .if1 .left)) (c .before .before .before .before .before .before .before .before .before .if2 .left)
+    (c .before .before .before .before .before .before .before .before .if3 .left)
+    (c .before .before .put-block .ensures
+    ∙ through-words (encryptFrom (s .path)) (start (wordsOf (s .key .now))) _ (s .block .now) _ _ _ (c .before .before .before .before .before .start .ensures) (c .before .before .before .before .before .before .before .before .before .if2 .left)
+    (c .before .before .before .before .before .before .before .block-at .ensures) (c .before .before .before .before .before .before .block-words .ensures) (c .before .before .before .before .encrypt-by-path .ensures))
+
+pub encrypt-block-spec : {M : Type 1} → statement M
+encrypt-block-spec = tie.close (tie.spec (λ c κs. search needs) returns returns-2 returns-3 (λ c κs. search needs) (λ c κs. search needs) (λ c κs. search needs) encrypt-by-path-requires (λ c κs. search needs) (λ c. search needs) returns-4)

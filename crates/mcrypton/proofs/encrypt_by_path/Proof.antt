@@ -1,0 +1,40 @@
+-- `mcrypton::encrypt_by_path` meets its contract. At the loop's head v is the register after r steps, and a the array after r rounds.
+use mathlib.Core.Path.{_≡_, ap, _∙_}
+use Prim.Native.Nat.{ℕ, _+_, _-_, _≤_}
+use native.Mathlib.Omega.{arith}
+use Rattle.rounds.specs.declared.Direction.the-variants.{Encrypt}
+use Rattle.schedule.specs.Schedule.{forward, roundKey}
+use Rattle.schedule.specs.declared.Register.{Register}
+use Rattle.mcrypton.specs.Registers.{encryptFrom}
+use Rattle.mcrypton.proofs.Loop.{At, begun, one-more, ended}
+use borrow.Author.Needs.{needs}
+use Rattle.mcrypton.proofs.encrypt_by_path.Statement.{statement}
+use Rattle.mcrypton.proofs.encrypt_by_path.Tie as tie
+
+abbrev Inv-loop : tie.InvT-loop
+Inv-loop p v₀ a₀ r₀ v a r = (r ≤ 12) × (v .round ≡ r) × At Encrypt p forward roundKey v₀ a₀ r v a
+
+abbrev μ-loop : tie.MeasureT-loop
+μ-loop p v₀ a₀ r₀ v a r = 12 - r
+
+next : (c : tie.After-forward Inv-loop μ-loop) → c .forward .result .round ≡ c .before .before .loop .r + 1
+unfolding forward
+next c = ap (λ (x : Register). x .round) (c .forward .ensures) ∙ ap (λ (n : ℕ). n + 1) (c .before .before .loop .inv .1)
+
+loop-holds : tie.Need-loop-holds Inv-loop μ-loop
+loop-holds c = (search needs, c .before .before .pre, begun Encrypt _ forward roundKey _ _)
+
+loop-again : tie.Need-loop-again Inv-loop μ-loop
+loop-again c = (
+  omega arith,
+  next (c .before .before),
+  one-more Encrypt _ forward roundKey _ _ (c .before .before .before .before .loop .r) (c .before .before .before .before .loop .inv .2) (c .before .before .forward .ensures) (c .before .round-key2 .ensures) (c .path-round .ensures),
+)
+
+returns : tie.Need-returns Inv-loop μ-loop
+unfolding encryptFrom
+returns c = ended Encrypt _ forward roundKey _ _ (c .before .before .before .before .before .args .b) (c .before .before .loop .r) (search needs) (search needs) (c .before .before .loop .inv .2)
+    (c .before .before .before .before .round-key .ensures) (c .before .before .before .sigma .ensures) (c .phi .ensures)
+
+pub encrypt-by-path-spec : {M : Type 1} → statement M
+encrypt-by-path-spec = tie.close (tie.spec Inv-loop μ-loop (λ c κs. omega (arith, c .pre)) (λ c κs. search needs) loop-holds (λ c κs. omega arith) (λ c. search needs) (λ c κs. let e = next c in omega arith) (λ c κs. search needs) (λ c. search needs) (λ c. search needs) loop-again (λ c κs. search needs) returns)

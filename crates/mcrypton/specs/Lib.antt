@@ -1,0 +1,6 @@
+pub mod Cipher
+pub mod Registers
+pub mod Bytes
+pub mod Calls
+pub mod Claims
+pub mod Cases

@@ -1,0 +1,6 @@
+pub mod Xor
+pub mod Chaining
+pub mod Subkeys
+pub mod Authentication
+pub mod Answers
+pub mod Laws

@@ -1,0 +1,6 @@
+pub mod Xor
+pub mod CBC
+pub mod CMAC
+pub mod Steps
+pub mod Answers
+pub mod Laws

@@ -1,0 +1,9 @@
+pub mod Test
+pub mod Bool
+pub mod Xor
+pub mod EveryByte
+pub mod Parts
+pub mod Zeros
+pub mod Numbers
+pub mod Compare
+pub mod Outcome

@@ -1,0 +1,5 @@
+pub mod Rotation
+pub mod Xor4
+pub mod Blocks
+pub mod Steps
+pub mod Paths

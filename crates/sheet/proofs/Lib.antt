@@ -1,0 +1,4 @@
+pub mod Verdicts
+pub mod Sealing
+pub mod Opening
+pub mod Calls

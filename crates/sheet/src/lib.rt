@@ -1,0 +1,66 @@
+// Caption sheets: blanking, writing, clearing and reading.
+use captions::Answer;
+use captions::Verdict;
+ghost use mathlib.Core.Path.{_≡_};
+ghost use Rattle.captions.specs.Answers.{outcome};
+ghost use Rattle.captions.specs.Calls.{writing, clearing, reading, blanking};
+ghost use Rattle.sheet.specs.Inner.{pair};
+
+mod seal;
+mod unseal;
+mod verdict;
+
+// Stores n, t, edition 1, w = 0 and zeros.
+pub fn blank(sheet: &mut [u8], n: usize, t: usize) -> Answer
+    ensures { λ r. ⌜ outcome r (now (sheet .exit)) ≡ blanking (now (sheet .entry)) n t ⌝ }
+{
+    let v = verdict::blank_verdict(sheet, n, t);
+    if let Verdict::Refuse(a) = v {
+        return a;
+    }
+    layout::put_blank(sheet, n, t);
+    Answer::Accepted(0)
+}
+
+// Seals a caption into a slot.
+pub fn write(
+    sealing: &[u8],
+    checking: &[u8],
+    sheet: &mut [u8],
+    slot: usize,
+    caption: &[u8],
+) -> Answer
+    ensures { λ r. ⌜ outcome r (now (sheet .exit)) ≡ writing (pair (now (sealing .entry)) (now (checking .entry))) (now (sheet .entry)) slot (now (caption .entry)) ⌝ }
+{
+    let v = verdict::write_verdict(sealing, checking, sheet, slot, caption);
+    if let Verdict::Refuse(a) = v {
+        return a;
+    }
+    seal::put_caption(sealing, checking, sheet, slot, caption);
+    Answer::Accepted(0)
+}
+
+// Makes all 208 bytes of a slot zero.
+pub fn clear(sheet: &mut [u8], slot: usize) -> Answer
+    ensures { λ r. ⌜ outcome r (now (sheet .exit)) ≡ clearing (now (sheet .entry)) slot ⌝ }
+{
+    let v = verdict::clear_verdict(sheet, slot);
+    if let Verdict::Refuse(a) = v {
+        return a;
+    }
+    let h = layout::sheet_shape(sheet);
+    layout::zero_slot(sheet, h, slot);
+    Answer::Accepted(0)
+}
+
+// Opens a slot into the window; a refused read makes every byte of the window zero.
+pub fn read(sealing: &[u8], checking: &[u8], sheet: &[u8], slot: usize, window: &mut [u8]) -> Answer
+    ensures { λ r. ⌜ outcome r (now (window .exit)) ≡ reading (pair (now (sealing .entry)) (now (checking .entry))) (now (sheet .entry)) slot (now (window .entry)) ⌝ }
+{
+    octets::fill_zero(window);
+    let v = verdict::read_verdict(sealing, checking, sheet, slot, window.len());
+    if let Verdict::Refuse(a) = v {
+        return a;
+    }
+    unseal::show(sealing, checking, sheet, slot, window)
+}

@@ -1,0 +1,143 @@
+/* Caption sheets: the C interface of the proved library.
+ *
+ * Link target/staticlib/libcaptions_c.a, which `rt staticlib captions_c` makes
+ * in the repository root. It is for x86-64.
+ *
+ * The library takes any length and any number: what it can't use, it refuses.
+ * It can't see whether a pointer is good, so every caller owes this:
+ *
+ *   - A pointer is never null, also where its length is 0.
+ *   - A pointer and the length after it name bytes of one object that the
+ *     caller may read and, where the pointer isn't const, write.
+ *   - Bytes lent through a pointer that isn't const overlap no other bytes of
+ *     the same call. Bytes that are only read may overlap each other.
+ *
+ * The library keeps nothing between calls and takes no memory from the heap, so
+ * calls on different bytes may run at the same time.
+ */
+#ifndef CAPTIONS_H
+#define CAPTIONS_H
+
+#include <stddef.h>
+#include <stdint.h>
+
+#ifdef __cplusplus
+extern "C" {
+#endif
+
+/* What a call answers: number is CAPTIONS_ACCEPTED or a refusal; length is 0,
+ * except for an accepted read, where it is the caption's. */
+typedef struct {
+    uint8_t number;
+    uint16_t length;
+} captions_answer;
+
+/* The numbers. A call tests in this order and gives the first that applies.
+ * A refusal changes no lent byte, except that a refused read makes every byte
+ * of its window zero, also where the window has a wrong length. */
+enum {
+    CAPTIONS_ACCEPTED = 0,
+    CAPTIONS_WRONG_KEY = 1,       /* a key isn't 8, 12 or 16 bytes, or the two
+                                     lengths differ; blanking: key_words isn't
+                                     4, 6 or 8 */
+    CAPTIONS_TWIN_KEYS = 2,       /* sealing and checking key are equal */
+    CAPTIONS_WRONG_SPAN = 3,      /* a block or its output isn't 8 bytes, a
+                                     check output isn't 8, a window isn't 192;
+                                     blanking: slots isn't 1 to 256, or the
+                                     sheet isn't CAPTIONS_SHEET(slots) bytes */
+    CAPTIONS_UNFIT_SHEET = 4,     /* shorter than 8 bytes, or any rule of the
+                                     layout broken, in any slot */
+    CAPTIONS_OTHER_KEY_CLASS = 5, /* keys of another length than the sheet's */
+    CAPTIONS_NO_SUCH_SLOT = 6,    /* the slot isn't below the slot count */
+    CAPTIONS_OVERLONG = 7,        /* a caption above 192 bytes */
+    CAPTIONS_WORN = 8,            /* a write on a sheet whose last write number
+                                     is 4294967295 */
+    CAPTIONS_BLANK = 9,           /* a read of a blank slot */
+    CAPTIONS_ALTERED = 10         /* the check differs, or an opened byte at or
+                                     past the length isn't zero */
+};
+
+/* The word of each number, for a table of strings:
+ *     static const char *const word[] = CAPTIONS_WORDS; */
+#define CAPTIONS_WORDS                                                         \
+    {                                                                          \
+        "accepted", "wrong key", "twin keys", "wrong span", "unfit sheet",     \
+            "other key class", "no such slot", "overlong", "worn", "blank",    \
+            "altered"                                                          \
+    }
+
+#define CAPTIONS_BLOCK 8     /* bytes of a block, and of its output */
+#define CAPTIONS_CHECK 8     /* bytes of a check (CMAC) */
+#define CAPTIONS_HEADER 8    /* bytes of a sheet before its marks */
+#define CAPTIONS_MARK 16     /* bytes of a slot's mark */
+#define CAPTIONS_FIELD 192   /* bytes of a sealed field, of a window and of the
+                                longest caption */
+#define CAPTIONS_SLOTS 256   /* the most slots of a sheet */
+#define CAPTIONS_LISTING 6836 /* bytes of the longest listing */
+
+/* The bytes of a sheet with that many slots, 1 to CAPTIONS_SLOTS. */
+#define CAPTIONS_SHEET(slots)                                                  \
+    (CAPTIONS_HEADER + (CAPTIONS_MARK + CAPTIONS_FIELD) * (size_t)(slots))
+
+/* Seals (encrypts) or opens (decrypts) one block. Bit r - 1 of path, from the
+ * lowest, is 1 for the word path in round r and 0 for the nibble path; the top
+ * four bits count for nothing. Every path gives the same bytes, so 0xffff, the
+ * word path throughout, will do. Refusals: WRONG_KEY, WRONG_SPAN. */
+captions_answer captions_encrypt_block(const uint8_t *key, size_t key_len,
+                                       const uint8_t *block, size_t block_len,
+                                       uint16_t path,
+                                       uint8_t *out, size_t out_len);
+captions_answer captions_decrypt_block(const uint8_t *key, size_t key_len,
+                                       const uint8_t *block, size_t block_len,
+                                       uint16_t path,
+                                       uint8_t *out, size_t out_len);
+
+/* Puts the check (CMAC) of a message of any length into out.
+ * Refusals: WRONG_KEY, WRONG_SPAN. */
+captions_answer captions_cmac(const uint8_t *key, size_t key_len,
+                              const uint8_t *message, size_t message_len,
+                              uint8_t *out, size_t out_len);
+
+/* Makes the bytes of sheet a sheet of blank slots for keys of key_words 16-bit
+ * words: 4, 6 or 8 for keys of 8, 12 or 16 bytes. What the bytes were doesn't
+ * matter. Refusals: WRONG_KEY, WRONG_SPAN. */
+captions_answer captions_blank(uint8_t *sheet, size_t sheet_len,
+                               size_t slots, size_t key_words);
+
+/* Writes a caption of 0 to 192 bytes into a slot, counted from 0, in place of
+ * what the slot held. One pair of keys serves a sheet.
+ * Refusals: WRONG_KEY, TWIN_KEYS, UNFIT_SHEET, OTHER_KEY_CLASS, NO_SUCH_SLOT,
+ * OVERLONG, WORN. */
+captions_answer captions_write(const uint8_t *sealing_key, size_t sealing_len,
+                               const uint8_t *checking_key, size_t checking_len,
+                               uint8_t *sheet, size_t sheet_len, size_t slot,
+                               const uint8_t *caption, size_t caption_len);
+
+/* Makes a slot blank; a blank one stays blank.
+ * Refusals: UNFIT_SHEET, NO_SUCH_SLOT. */
+captions_answer captions_clear(uint8_t *sheet, size_t sheet_len, size_t slot);
+
+/* Reads a slot: the window of 192 bytes gets the caption, then zero bytes, and
+ * the answer carries the caption's length. A refused read makes every byte of
+ * the window zero.
+ * Refusals: WRONG_KEY, TWIN_KEYS, WRONG_SPAN, UNFIT_SHEET, OTHER_KEY_CLASS,
+ * NO_SUCH_SLOT, BLANK, ALTERED. */
+captions_answer captions_read(const uint8_t *sealing_key, size_t sealing_len,
+                              const uint8_t *checking_key, size_t checking_len,
+                              const uint8_t *sheet, size_t sheet_len,
+                              size_t slot,
+                              uint8_t *window, size_t window_len);
+
+/* Puts the listing of a sheet, lines of text with no zero byte after them,
+ * into the first bytes of out and answers how many bytes it has; the bytes
+ * after them stay as they were. An unfit sheet has the listing "unfit" and a
+ * line feed. Where the listing has more bytes than out, out stays as it was
+ * and the answer is 0. An out of CAPTIONS_LISTING bytes holds any listing. */
+size_t captions_list(const uint8_t *sheet, size_t sheet_len,
+                     uint8_t *out, size_t out_len);
+
+#ifdef __cplusplus
+}
+#endif
+
+#endif

@@ -1,0 +1,34 @@
+//! The listing (document 01, after cases A to M).
+
+use crate::sheet::{fit_header, mark_of};
+
+/// The most bytes a sheet has: 256 slots.
+pub const MOST_BYTES: usize = 53256;
+
+/// The listing text of a sheet; an unfit one, or one above 53256 bytes, gives
+/// "unfit" alone on its line.
+pub fn listing(sheet: &[u8]) -> Vec<u8> {
+    text(sheet).into_bytes()
+}
+
+fn text(sheet: &[u8]) -> String {
+    if sheet.len() > MOST_BYTES {
+        return "unfit\n".to_string();
+    }
+    let Some(header) = fit_header(sheet) else {
+        return "unfit\n".to_string();
+    };
+    let key_bits = 16 * header.t;
+    let mut text = format!("slots {} key {} last {}\n", header.n, key_bits, header.w);
+    for slot in 0..header.n {
+        text += &slot_line(sheet, header.n, slot);
+    }
+    text
+}
+
+fn slot_line(sheet: &[u8], n: usize, slot: usize) -> String {
+    match mark_of(sheet, n, slot) {
+        None => format!("{slot} blank\n"),
+        Some(mark) => format!("{slot} written {} {}\n", mark.write_number, mark.length),
+    }
+}

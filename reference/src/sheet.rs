@@ -1,0 +1,358 @@
+//! The sheet: layout, blanking, writing, clearing, reading (document 01, "The
+//! sheet" and "What the kiosk shows instead of a caption").
+
+use crate::cipher::{decrypt, encrypt, Block, Register};
+use crate::modes::{cbc_decrypt, cbc_encrypt, cmac_with};
+use crate::{
+    refuse_if, Answer, ALTERED, BLANK, NO_SUCH_SLOT, OTHER_KEY_CLASS, OVERLONG, TWIN_KEYS,
+    UNFIT_SHEET, WORN, WRONG_KEY, WRONG_SPAN,
+};
+use std::ops::Range;
+
+/// The bytes before the marks.
+pub const HEADER: usize = 8;
+/// The bytes of a mark.
+pub const MARK: usize = 16;
+/// The bytes of a sealed field, of a window and of the longest caption.
+pub const FIELD: usize = 192;
+/// The most slots a sheet has.
+pub const MOST_SLOTS: usize = 256;
+/// The edition.
+pub const EDITION: u8 = 1;
+
+/// The length of a sheet of n slots, n from 1 to 256.
+fn sheet_length(n: usize) -> usize {
+    HEADER + (MARK + FIELD) * n
+}
+
+/// Where the mark of a slot stands.
+fn mark_place(slot: usize) -> Range<usize> {
+    let start = HEADER + MARK * slot;
+    start..start + MARK
+}
+
+/// Where the sealed field of a slot stands.
+fn field_place(n: usize, slot: usize) -> Range<usize> {
+    let start = HEADER + MARK * n + FIELD * slot;
+    start..start + FIELD
+}
+
+/// A number of up to four bytes, high byte first.
+fn number(bytes: &[u8]) -> u32 {
+    bytes.iter().fold(0, |x, byte| x << 8 | u32::from(*byte))
+}
+
+fn all_zero(bytes: &[u8]) -> bool {
+    bytes.iter().all(|byte| *byte == 0)
+}
+
+/// The header, bytes 0 to 7.
+pub(crate) struct Header {
+    pub(crate) n: usize,
+    pub(crate) t: usize,
+    pub(crate) edition: u8,
+    pub(crate) w: u32,
+}
+
+/// The header of a sheet of at least 8 bytes.
+fn header(sheet: &[u8]) -> Header {
+    Header {
+        n: number(&sheet[0..2]) as usize,
+        t: usize::from(sheet[2]),
+        edition: sheet[3],
+        w: number(&sheet[4..8]),
+    }
+}
+
+/// A mark, and its 16 bytes.
+pub(crate) struct Mark {
+    pub(crate) write_number: u32,
+    pub(crate) length: u16,
+    zeros: [u8; 2],
+    check: Block,
+}
+
+impl Mark {
+    fn of_bytes(bytes: &[u8]) -> Mark {
+        Mark {
+            write_number: number(&bytes[0..4]),
+            length: number(&bytes[4..6]) as u16,
+            zeros: [bytes[6], bytes[7]],
+            check: std::array::from_fn(|i| bytes[8 + i]),
+        }
+    }
+
+    fn bytes(&self) -> Vec<u8> {
+        let mut bytes = Vec::new();
+        bytes.extend(self.write_number.to_be_bytes());
+        bytes.extend(self.length.to_be_bytes());
+        bytes.extend(self.zeros);
+        bytes.extend(self.check);
+        bytes
+    }
+}
+
+// ---- The layout ----
+
+/// Whether t is 4, 6 or 8.
+fn is_key_class(t: usize) -> bool {
+    t == 4 || t == 6 || t == 8
+}
+
+/// Whether n is 1 to 256.
+fn is_slot_count(n: usize) -> bool {
+    (1..=MOST_SLOTS).contains(&n)
+}
+
+/// The layout test (the contrary of refusal 4).
+pub fn fit(sheet: &[u8]) -> bool {
+    fit_header(sheet).is_some()
+}
+
+/// The header of a sheet that meets every rule of the layout.
+pub(crate) fn fit_header(sheet: &[u8]) -> Option<Header> {
+    if sheet.len() < HEADER {
+        return None;
+    }
+    let header = header(sheet);
+    let fits = is_slot_count(header.n)
+        && is_key_class(header.t)
+        && header.edition == EDITION
+        && sheet.len() == sheet_length(header.n)
+        && (0..header.n).all(|slot| slot_fits(sheet, &header, slot));
+    fits.then_some(header)
+}
+
+/// Every slot is one or the other: blank or written.
+fn slot_fits(sheet: &[u8], header: &Header, slot: usize) -> bool {
+    is_blank(sheet, header.n, slot) || is_written(sheet, header.w, slot)
+}
+
+/// A blank slot has all 208 bytes zero.
+fn is_blank(sheet: &[u8], n: usize, slot: usize) -> bool {
+    all_zero(&sheet[mark_place(slot)]) && all_zero(&sheet[field_place(n, slot)])
+}
+
+/// A written slot has a write number from 1 to w, a length from 0 to 192 and
+/// two zero bytes.
+fn is_written(sheet: &[u8], w: u32, slot: usize) -> bool {
+    let mark = Mark::of_bytes(&sheet[mark_place(slot)]);
+    1 <= mark.write_number
+        && mark.write_number <= w
+        && usize::from(mark.length) <= FIELD
+        && all_zero(&mark.zeros)
+}
+
+/// The mark of a slot below n of a sheet that fits; none if it is blank.
+pub(crate) fn mark_of(sheet: &[u8], n: usize, slot: usize) -> Option<Mark> {
+    if is_blank(sheet, n, slot) {
+        None
+    } else {
+        Some(Mark::of_bytes(&sheet[mark_place(slot)]))
+    }
+}
+
+// ---- What is sealed and checked ----
+
+/// The start block: the sealing key's sealed form of write number, slot and
+/// two zero bytes.
+fn start_block(sealing_key: Register, write_number: u32, slot: usize) -> Block {
+    let [a, b, c, d] = write_number.to_be_bytes();
+    let [e, f] = (slot as u16).to_be_bytes();
+    encrypt(sealing_key, [a, b, c, d, e, f, 0, 0])
+}
+
+/// The caption followed by zero bytes up to 192, sealed by CBC.
+fn sealed_field(key: Register, write_number: u32, slot: usize, caption: &[u8]) -> Vec<u8> {
+    let mut plain = caption.to_vec();
+    plain.resize(FIELD, 0);
+    let start = start_block(key, write_number, slot);
+    let blocks = plain.as_chunks::<8>().0;
+    cbc_encrypt(&|block| encrypt(key, block), start, blocks).concat()
+}
+
+/// A sealed field opened by CBC.
+fn opened_field(key: Register, write_number: u32, slot: usize, field: &[u8]) -> Vec<u8> {
+    let start = start_block(key, write_number, slot);
+    let blocks = field.as_chunks::<8>().0;
+    cbc_decrypt(&|block| decrypt(key, block), start, blocks).concat()
+}
+
+/// The check: CMAC of write number, slot, length and sealed field, 200 bytes.
+fn check(key: Register, write_number: u32, slot: usize, length: u16, field: &[u8]) -> Block {
+    let mut message = Vec::new();
+    message.extend(write_number.to_be_bytes());
+    message.extend((slot as u16).to_be_bytes());
+    message.extend(length.to_be_bytes());
+    message.extend(field);
+    cmac_with(&|block| encrypt(key, block), &message)
+}
+
+// ---- Tests that calls share ----
+
+/// Tests 1 and 2: the sealing and the checking key.
+fn key_pair(sealing_key: &[u8], checking_key: &[u8]) -> Result<(Register, Register), u8> {
+    let sealing = Register::of_key(sealing_key).ok_or(WRONG_KEY)?;
+    let checking = Register::of_key(checking_key).ok_or(WRONG_KEY)?;
+    refuse_if(sealing_key.len() != checking_key.len(), WRONG_KEY)?;
+    refuse_if(sealing_key == checking_key, TWIN_KEYS)?;
+    Ok((sealing, checking))
+}
+
+/// Test 4.
+fn tested_header(sheet: &[u8]) -> Result<Header, u8> {
+    fit_header(sheet).ok_or(UNFIT_SHEET)
+}
+
+// ---- Blanking ----
+
+/// Blanking: stores n, t, edition 1, w = 0 and zeros. Refusals 1 and 3.
+pub fn blank(sheet: &mut [u8], n: usize, t: usize) -> Answer {
+    match blanking_tests(sheet, n, t) {
+        Ok(()) => {
+            sheet.fill(0);
+            sheet[0..2].copy_from_slice(&(n as u16).to_be_bytes());
+            sheet[2] = t as u8;
+            sheet[3] = EDITION;
+            Answer::accepted(0)
+        }
+        Err(number) => Answer::refused(number),
+    }
+}
+
+fn blanking_tests(sheet: &[u8], n: usize, t: usize) -> Result<(), u8> {
+    refuse_if(!is_key_class(t), WRONG_KEY)?;
+    refuse_if(!is_slot_count(n), WRONG_SPAN)?;
+    refuse_if(sheet.len() != sheet_length(n), WRONG_SPAN)
+}
+
+// ---- Writing ----
+
+/// What a write that meets no refusal stores.
+struct Written {
+    n: usize,
+    mark: Mark,
+    field: Vec<u8>,
+}
+
+/// Writing a caption into a slot. Refusals 1, 2, 4, 5, 6, 7, 8.
+pub fn write(
+    sealing_key: &[u8],
+    checking_key: &[u8],
+    sheet: &mut [u8],
+    slot: usize,
+    caption: &[u8],
+) -> Answer {
+    match tested_write(sealing_key, checking_key, sheet, slot, caption) {
+        Ok(written) => {
+            sheet[4..8].copy_from_slice(&written.mark.write_number.to_be_bytes());
+            sheet[mark_place(slot)].copy_from_slice(&written.mark.bytes());
+            sheet[field_place(written.n, slot)].copy_from_slice(&written.field);
+            Answer::accepted(0)
+        }
+        Err(number) => Answer::refused(number),
+    }
+}
+
+fn tested_write(
+    sealing_key: &[u8],
+    checking_key: &[u8],
+    sheet: &[u8],
+    slot: usize,
+    caption: &[u8],
+) -> Result<Written, u8> {
+    let (sealing, checking) = key_pair(sealing_key, checking_key)?;
+    let header = tested_header(sheet)?;
+    refuse_if(sealing_key.len() != 2 * header.t, OTHER_KEY_CLASS)?;
+    refuse_if(slot >= header.n, NO_SUCH_SLOT)?;
+    refuse_if(caption.len() > FIELD, OVERLONG)?;
+    let write_number = header.w.checked_add(1).ok_or(WORN)?;
+
+    let length = caption.len() as u16;
+    let field = sealed_field(sealing, write_number, slot, caption);
+    let mark = Mark {
+        write_number,
+        length,
+        zeros: [0; 2],
+        check: check(checking, write_number, slot, length, &field),
+    };
+    Ok(Written {
+        n: header.n,
+        mark,
+        field,
+    })
+}
+
+// ---- Clearing ----
+
+/// Clearing a slot: all its 208 bytes become zero, w stays. Refusals 4 and 6.
+pub fn clear(sheet: &mut [u8], slot: usize) -> Answer {
+    match tested_clear(sheet, slot) {
+        Ok(header) => {
+            sheet[mark_place(slot)].fill(0);
+            sheet[field_place(header.n, slot)].fill(0);
+            Answer::accepted(0)
+        }
+        Err(number) => Answer::refused(number),
+    }
+}
+
+fn tested_clear(sheet: &[u8], slot: usize) -> Result<Header, u8> {
+    let header = tested_header(sheet)?;
+    refuse_if(slot >= header.n, NO_SUCH_SLOT)?;
+    Ok(header)
+}
+
+// ---- Reading ----
+
+/// What a read that meets no refusal shows.
+struct Caption {
+    length: u16,
+    window: Vec<u8>,
+}
+
+/// Reading a slot into a window of 192 bytes. Refusals 1, 2, 3, 4, 5, 6, 9,
+/// 10; a refused read makes every byte of its window zero.
+pub fn read(
+    sealing_key: &[u8],
+    checking_key: &[u8],
+    sheet: &[u8],
+    slot: usize,
+    window: &mut [u8],
+) -> Answer {
+    match tested_read(sealing_key, checking_key, sheet, slot, window) {
+        Ok(caption) => {
+            window.copy_from_slice(&caption.window);
+            Answer::accepted(caption.length)
+        }
+        Err(number) => {
+            window.fill(0);
+            Answer::refused(number)
+        }
+    }
+}
+
+fn tested_read(
+    sealing_key: &[u8],
+    checking_key: &[u8],
+    sheet: &[u8],
+    slot: usize,
+    window: &[u8],
+) -> Result<Caption, u8> {
+    let (sealing, checking) = key_pair(sealing_key, checking_key)?;
+    refuse_if(window.len() != FIELD, WRONG_SPAN)?;
+    let header = tested_header(sheet)?;
+    refuse_if(sealing_key.len() != 2 * header.t, OTHER_KEY_CLASS)?;
+    refuse_if(slot >= header.n, NO_SUCH_SLOT)?;
+    let mark = mark_of(sheet, header.n, slot).ok_or(BLANK)?;
+
+    let field = &sheet[field_place(header.n, slot)];
+    let true_check = check(checking, mark.write_number, slot, mark.length, field);
+    refuse_if(mark.check != true_check, ALTERED)?;
+    let opened = opened_field(sealing, mark.write_number, slot, field);
+    refuse_if(!all_zero(&opened[usize::from(mark.length)..]), ALTERED)?;
+    Ok(Caption {
+        length: mark.length,
+        window: opened,
+    })
+}

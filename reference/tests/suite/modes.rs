@@ -1,0 +1,181 @@
+//! CBC and CMAC, with DES-EDE3 where the standards give vectors, with plain
+//! functions, and with mCrypton.
+
+use crate::des::{ede_decrypt, ede_encrypt};
+use crate::random::Random;
+use crate::support::{cmac, decrypt, encrypt, hex, hex_block, CLASSES};
+use reference::modes::{cbc_decrypt, cbc_encrypt, cmac_subkeys, cmac_with};
+
+fn xor(a: [u8; 8], b: [u8; 8]) -> [u8; 8] {
+    std::array::from_fn(|i| a[i] ^ b[i])
+}
+
+/// The three-key TDEA key of SP 800-38B, appendix D.
+const TDEA: [u64; 3] = [0x8aa83bf8cbda1062, 0x0bc1bf19fbb6cd58, 0xbc313d4a371ca8b5];
+
+/// The two-key TDEA key of SP 800-38B, appendix D.
+const TWO_KEY_TDEA: [u64; 3] = [0x4cf15134a2850dd5, 0x8a3d10ba80570d38, 0x4cf15134a2850dd5];
+
+/// The message of SP 800-38B, appendix D.
+const MESSAGE: &str = "6bc1bee2 2e409f96 e93d7e11 7393172a ae2d8a57 1e03ac9c 9eb76fac 45af8e51";
+
+#[test]
+fn cmac_subkeys_of_sp_800_38b_with_des_ede3() {
+    let ciph = |block| ede_encrypt(TDEA, block);
+    assert_eq!(ciph([0; 8]), hex_block("c8cc74e9 8a7329a2"));
+    let (k1, k2) = cmac_subkeys(&ciph);
+    assert_eq!(k1, hex_block("9198e9d3 14e6535f"));
+    assert_eq!(k2, hex_block("2331d3a6 29cca6a5"));
+}
+
+#[test]
+fn cmac_examples_of_sp_800_38b_with_des_ede3() {
+    let ciph = |block| ede_encrypt(TDEA, block);
+    let message = hex(MESSAGE);
+    for (length, mac) in [
+        (0, "b7a688e1 22ffaf95"),
+        (8, "8e8f2931 36283797"),
+        (20, "743ddbe0 ce2dc2ed"),
+        (32, "33e6b109 2400eae5"),
+    ] {
+        assert_eq!(cmac_with(&ciph, &message[..length]), hex_block(mac));
+    }
+}
+
+#[test]
+fn cmac_examples_of_sp_800_38b_with_two_key_des_ede() {
+    let ciph = |block| ede_encrypt(TWO_KEY_TDEA, block);
+    let message = hex(MESSAGE);
+    for (length, mac) in [
+        (0, "bd2ebf9a 3ba00361"),
+        (8, "4ff2ab81 3c53ce83"),
+        (20, "62dd1b47 1902bd4e"),
+        (32, "31b1e431 dabc4eb8"),
+    ] {
+        assert_eq!(cmac_with(&ciph, &message[..length]), hex_block(mac));
+    }
+}
+
+/// The CBC example of FIPS 81; DES-EDE3 with three equal keys is DES.
+#[test]
+fn cbc_example_of_fips_81() {
+    let keys = [0x0123456789abcdef; 3];
+    let start = hex_block("12345678 90abcdef");
+    let plain = [*b"Now is t", *b"he time ", *b"for all "];
+    let sealed = [
+        hex_block("e5c7cdde 872bf27c"),
+        hex_block("43e93400 8c389c0f"),
+        hex_block("68378849 9a7c05f6"),
+    ];
+    let seal = |block| ede_encrypt(keys, block);
+    let open = |block| ede_decrypt(keys, block);
+    assert_eq!(cbc_encrypt(&seal, start, &plain), sealed);
+    assert_eq!(cbc_decrypt(&open, start, &sealed), plain);
+}
+
+#[test]
+fn cbc_with_the_identity_is_a_running_exclusive_or() {
+    let mut random = Random::new(20);
+    let start = random.block();
+    let text: Vec<[u8; 8]> = (0..9).map(|_| random.block()).collect();
+    let sealed = cbc_encrypt(&|block| block, start, &text);
+    let opened = cbc_decrypt(&|block| block, start, &text);
+    for j in 0..9 {
+        let sum = text[..=j].iter().fold(start, |sum, p| xor(sum, *p));
+        assert_eq!(sealed[j], sum);
+        let before = if j == 0 { start } else { text[j - 1] };
+        assert_eq!(opened[j], xor(text[j], before));
+    }
+}
+
+#[test]
+fn cbc_with_mcrypton_block_by_block_and_back() {
+    let mut random = Random::new(21);
+    for t in CLASSES {
+        for count in [0, 1, 2, 3, 24, 40] {
+            let key = random.bytes(2 * t);
+            let start = random.block();
+            let plain: Vec<[u8; 8]> = (0..count).map(|_| random.block()).collect();
+            let sealed = cbc_encrypt(&|block| encrypt(&key, block), start, &plain);
+            assert_eq!(sealed.len(), count);
+            for j in 0..count {
+                let before = if j == 0 { start } else { sealed[j - 1] };
+                assert_eq!(sealed[j], encrypt(&key, xor(plain[j], before)));
+            }
+            let opened = cbc_decrypt(&|block| decrypt(&key, block), start, &sealed);
+            assert_eq!(opened, plain);
+        }
+    }
+}
+
+#[test]
+fn the_constant_of_cmac_is_1b_and_is_added_only_for_a_1_shifted_out() {
+    let subkeys = |l: u64| {
+        let (k1, k2) = cmac_subkeys(&|_| l.to_be_bytes());
+        (u64::from_be_bytes(k1), u64::from_be_bytes(k2))
+    };
+    assert_eq!(subkeys(0), (0, 0));
+    assert_eq!(subkeys(1), (2, 4));
+    assert_eq!(subkeys(1 << 63), (0x1b, 0x36));
+    assert_eq!(subkeys(1 << 62), (1 << 63, 0x1b));
+    assert_eq!(subkeys(u64::MAX), (0xffffffffffffffe5, 0xffffffffffffffd1));
+}
+
+/// With the identity as the cipher both subkeys are 0, so the CMAC is the
+/// exclusive or of the blocks, the last one padded if it isn't complete.
+#[test]
+fn cmac_with_the_identity_sums_the_padded_blocks() {
+    let mut random = Random::new(22);
+    for length in 0..70 {
+        let message = random.bytes(length);
+        let mut padded = message.clone();
+        if length == 0 || !message.len().is_multiple_of(8) {
+            padded.push(0x80);
+        }
+        while !padded.len().is_multiple_of(8) {
+            padded.push(0);
+        }
+        let mut sum = [0; 8];
+        for (i, byte) in padded.iter().enumerate() {
+            sum[i % 8] ^= byte;
+        }
+        assert_eq!(cmac_with(&|block| block, &message), sum);
+    }
+}
+
+#[test]
+fn cmac_with_mcrypton_at_every_length_to_70_and_at_200() {
+    let mut random = Random::new(23);
+    for t in CLASSES {
+        for length in (0..=70).chain([200, 632]) {
+            let key = random.bytes(2 * t);
+            let message = random.bytes(length);
+            assert_eq!(cmac(&key, &message), cmac_spelt_out(&key, &message));
+        }
+    }
+}
+
+/// CMAC by another road: CBC over the whole padded message, last block taken.
+fn cmac_spelt_out(key: &[u8], message: &[u8]) -> [u8; 8] {
+    let double = |x: u64| (x << 1) ^ (0x1b * (x >> 63));
+    let l = u64::from_be_bytes(encrypt(key, [0; 8]));
+    let (k1, k2) = (double(l), double(double(l)));
+    let mut padded = message.to_vec();
+    let mut subkey = k1;
+    if message.is_empty() || !message.len().is_multiple_of(8) {
+        subkey = k2;
+        padded.push(0x80);
+        while !padded.len().is_multiple_of(8) {
+            padded.push(0);
+        }
+    }
+    let end = padded.len();
+    for (i, byte) in subkey.to_be_bytes().iter().enumerate() {
+        padded[end - 8 + i] ^= byte;
+    }
+    let mut c = [0; 8];
+    for block in padded.chunks(8) {
+        c = encrypt(key, xor(c, block.try_into().unwrap()));
+    }
+    c
+}

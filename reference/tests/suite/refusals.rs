@@ -1,0 +1,349 @@
+//! Each refusal from both sides, and their order (document 01, the table).
+
+use crate::random::Random;
+use crate::support::*;
+
+/// Lengths and numbers about every edge, and far ones.
+const LENGTHS: [usize; 19] = [
+    0, 1, 7, 8, 9, 11, 12, 13, 15, 16, 17, 18, 24, 32, 191, 192, 193, 200, 256,
+];
+const FAR: [usize; 5] = [65536, 65540, 1 << 32, usize::MAX - 1, usize::MAX];
+
+fn is_key_length(length: usize) -> bool {
+    [8, 12, 16].contains(&length)
+}
+
+/// All subsets of a list of numbers.
+fn subsets(numbers: &[u8]) -> Vec<Vec<u8>> {
+    let mut all = vec![Vec::new()];
+    for number in numbers {
+        for mut subset in all.clone() {
+            subset.push(*number);
+            all.push(subset);
+        }
+    }
+    all
+}
+
+/// The first number of a set, or 0.
+fn first(set: &[u8]) -> u8 {
+    set.iter().copied().min().unwrap_or(0)
+}
+
+#[test]
+fn sealing_and_opening_a_block_test_1_and_3() {
+    for key_length in LENGTHS {
+        for block_length in LENGTHS {
+            for out_length in LENGTHS {
+                let number = if !is_key_length(key_length) {
+                    1
+                } else if block_length != 8 || out_length != 8 {
+                    3
+                } else {
+                    0
+                };
+                let key = vec![1; key_length];
+                let block = vec![2; block_length];
+                for call in [reference::encrypt_block, reference::decrypt_block] {
+                    let mut out = vec![3; out_length];
+                    assert_eq!(call(&key, &block, &mut out), refused(number));
+                    assert_eq!(out == vec![3; out_length], number != 0 || out_length == 0);
+                }
+            }
+        }
+    }
+}
+
+#[test]
+fn cmac_tests_1_and_3() {
+    for key_length in LENGTHS {
+        for message_length in LENGTHS {
+            for out_length in LENGTHS {
+                let number = if !is_key_length(key_length) {
+                    1
+                } else if out_length != 8 {
+                    3
+                } else {
+                    0
+                };
+                let key = vec![1; key_length];
+                let message = vec![2; message_length];
+                let mut out = vec![3; out_length];
+                let answer = reference::cmac(&key, &message, &mut out);
+                assert_eq!(answer, refused(number));
+                assert_eq!(out == vec![3; out_length], number != 0 || out_length == 0);
+            }
+        }
+    }
+}
+
+#[test]
+fn blanking_tests_1_and_3() {
+    let fitting = |n: usize| 8 + 208 * n;
+    let lengths = [
+        0,
+        7,
+        8,
+        9,
+        215,
+        216,
+        217,
+        424,
+        53255,
+        53256,
+        53257,
+        fitting(257),
+    ];
+    for t in (0..20).chain(FAR).chain([260, 262, 264]) {
+        for n in [0, 1, 2, 3, 255, 256, 257, 258].into_iter().chain(FAR) {
+            for length in lengths {
+                let number = if ![4, 6, 8].contains(&t) {
+                    1
+                } else if n == 0 || n > 256 || length != fitting(n) {
+                    3
+                } else {
+                    0
+                };
+                let mut sheet = vec![7; length];
+                assert_eq!(reference::blank(&mut sheet, n, t), refused(number));
+                assert_eq!(sheet == vec![7; length], number != 0);
+            }
+        }
+    }
+}
+
+#[test]
+fn a_clear_tests_4_and_6() {
+    for set in subsets(&[4, 6]) {
+        let mut sheet = blank_sheet(2, 4);
+        if set.contains(&4) {
+            sheet[3] = 2;
+        }
+        for slot in if set.contains(&6) {
+            [2, usize::MAX]
+        } else {
+            [0, 1]
+        } {
+            let before = sheet.clone();
+            assert_eq!(reference::clear(&mut sheet, slot), refused(first(&set)));
+            assert_eq!(sheet, before);
+        }
+    }
+}
+
+#[test]
+fn a_clear_of_any_short_or_random_sheet_changes_nothing() {
+    let mut random = Random::new(70);
+    for length in (0..300).chain([424, 425]) {
+        let mut sheet = random.bytes(length);
+        let before = sheet.clone();
+        assert_eq!(reference::clear(&mut sheet, 0), refused(4));
+        assert_eq!(sheet, before);
+    }
+}
+
+/// What a call on a sheet is given, so that a set of refusals applies.
+struct Call {
+    sealing: Vec<u8>,
+    checking: Vec<u8>,
+    sheet: Vec<u8>,
+    slot: usize,
+    caption: Vec<u8>,
+    window: Vec<u8>,
+}
+
+/// A call to which each refusal of the set applies, whatever else does:
+/// `way` chooses among ways of provoking one.
+fn call_for(set: &[u8], t: usize, way: usize, random: &mut Random) -> Call {
+    let provoke = |number| set.contains(&number);
+    let mut keys = pair(random, t);
+    let mut sheet = blank_sheet(3, t);
+    let slot = 1;
+    let caption = random.bytes(40);
+    if !provoke(9) {
+        assert_eq!(write(&keys, &mut sheet, slot, &caption), accepted(0));
+    }
+    if provoke(8) {
+        set_w(&mut sheet, u32::MAX);
+    }
+    if provoke(10) {
+        // The check or the field of slot 1.
+        sheet[[32, 39, 56 + 192, 56 + 383][way % 4]] ^= 0x40;
+    }
+    if provoke(5) {
+        let class = [4, 6, 8][(t / 2 - 1 + way % 2) % 3];
+        assert_ne!(class, t);
+        keys = pair(random, class);
+    }
+    if provoke(4) {
+        match way % 6 {
+            0 => sheet[3] = 2,
+            1 => sheet.truncate(7),
+            2 => sheet[8 + 12] = 1,
+            3 => sheet[56] = 1,
+            4 => sheet.push(0),
+            _ => sheet.clear(),
+        }
+    }
+    if provoke(1) {
+        // Equal wrong lengths, as a pair of twins has.
+        let length = [0, 7, 9, 13, 15, 17][way % 6];
+        keys.0.resize(length, 1);
+        keys.1.resize(length, 2);
+    }
+    if provoke(2) {
+        keys.1 = keys.0.clone();
+    }
+    Call {
+        sealing: keys.0,
+        checking: keys.1,
+        sheet,
+        slot: if provoke(6) {
+            [3, 4, 256, 65537, usize::MAX][way % 5]
+        } else {
+            slot
+        },
+        caption: if provoke(7) {
+            random.bytes([193, 194, 65728][way % 3])
+        } else {
+            caption
+        },
+        window: vec![
+            0xee;
+            if provoke(3) {
+                [0, 1, 191, 193, 1000][way % 5]
+            } else {
+                192
+            }
+        ],
+    }
+}
+
+#[test]
+fn a_write_gives_the_first_refusal_of_every_set() {
+    let mut random = Random::new(71);
+    for t in CLASSES {
+        for set in subsets(&[1, 2, 4, 5, 6, 7, 8]) {
+            for way in 0..6 {
+                let mut call = call_for(&set, t, way, &mut random);
+                let before = call.sheet.clone();
+                let answer = reference::write(
+                    &call.sealing,
+                    &call.checking,
+                    &mut call.sheet,
+                    call.slot,
+                    &call.caption,
+                );
+                assert_eq!(answer, refused(first(&set)), "{set:?} {way}");
+                assert_eq!(call.sheet == before, !set.is_empty(), "{set:?} {way}");
+            }
+        }
+    }
+}
+
+#[test]
+fn a_read_gives_the_first_refusal_of_every_set_and_zeroes_its_window() {
+    let mut random = Random::new(72);
+    let mut sets = Vec::new();
+    for set in subsets(&[1, 2, 3, 4, 5, 6]) {
+        // A blank slot has no check, so 9 and 10 never apply together.
+        sets.push(set.clone());
+        sets.push([set.clone(), vec![9]].concat());
+        sets.push([set, vec![10]].concat());
+    }
+    for t in CLASSES {
+        for set in &sets {
+            for way in 0..6 {
+                let mut call = call_for(set, t, way, &mut random);
+                let answer = reference::read(
+                    &call.sealing,
+                    &call.checking,
+                    &call.sheet,
+                    call.slot,
+                    &mut call.window,
+                );
+                if set.is_empty() {
+                    assert_eq!(answer, accepted(40));
+                    assert_eq!(call.window, shown(&call.caption));
+                } else {
+                    assert_eq!(answer, refused(first(set)), "{set:?} {way}");
+                    assert!(call.window.iter().all(|byte| *byte == 0));
+                }
+            }
+        }
+    }
+}
+
+#[test]
+fn one_wrong_key_or_two_lengths_that_differ_give_1() {
+    for sealing in LENGTHS {
+        for checking in LENGTHS {
+            let fine = is_key_length(sealing) && sealing == checking;
+            let t = sealing / 2;
+            let mut sheet = blank_sheet(1, if fine { t } else { 4 });
+            let keys = (vec![1; sealing], vec![2; checking]);
+            let number = if fine { 0 } else { 1 };
+            assert_eq!(write(&keys, &mut sheet, 0, b""), refused(number));
+            assert_eq!(read(&keys, &sheet, 0), (refused(number), [0; 192]));
+        }
+    }
+}
+
+#[test]
+fn empty_keys_are_wrong_before_they_are_twins() {
+    let mut sheet = blank_sheet(1, 4);
+    let keys = (Vec::new(), Vec::new());
+    assert_eq!(write(&keys, &mut sheet, 0, b""), refused(1));
+    assert_eq!(read(&keys, &sheet, 0), (refused(1), [0; 192]));
+}
+
+#[test]
+fn keys_that_differ_in_one_bit_are_not_twins() {
+    let mut random = Random::new(73);
+    for t in CLASSES {
+        let sealing = random.bytes(2 * t);
+        let mut sheet = blank_sheet(1, t);
+        let twins = (sealing.clone(), sealing.clone());
+        assert_eq!(write(&twins, &mut sheet, 0, b"x"), refused(2));
+        assert_eq!(read(&twins, &sheet, 0), (refused(2), [0; 192]));
+        for bit in 0..16 * t {
+            let mut checking = sealing.clone();
+            checking[bit / 8] ^= 1 << (bit % 8);
+            let keys = (sealing.clone(), checking);
+            assert_eq!(write(&keys, &mut sheet, 0, b"x"), accepted(0));
+        }
+    }
+}
+
+#[test]
+fn any_window_but_192_gives_3_and_becomes_zero() {
+    let mut random = Random::new(74);
+    let keys = pair(&mut random, 4);
+    let mut sheet = blank_sheet(1, 4);
+    write(&keys, &mut sheet, 0, b"caption");
+    for length in 0..400 {
+        let mut window = vec![0xee; length];
+        let answer = reference::read(&keys.0, &keys.1, &sheet, 0, &mut window);
+        if length == 192 {
+            assert_eq!(answer, accepted(7));
+            assert_eq!(window, shown(b"caption"));
+        } else {
+            assert_eq!(answer, refused(3));
+            assert_eq!(window, vec![0; length]);
+        }
+    }
+}
+
+#[test]
+fn keys_of_each_class_on_sheets_of_each_class() {
+    let mut random = Random::new(75);
+    for t in CLASSES {
+        for class in CLASSES {
+            let keys = pair(&mut random, class);
+            let mut sheet = blank_sheet(1, t);
+            let number = if class == t { 0 } else { 5 };
+            assert_eq!(write(&keys, &mut sheet, 0, b""), refused(number));
+            assert_eq!(read(&keys, &sheet, 0).0, refused(number));
+        }
+    }
+}

@@ -1,0 +1,271 @@
+//! What the calls store and show (document 01, "The sheet").
+
+use crate::random::Random;
+use crate::support::*;
+use reference::modes::cbc_encrypt;
+
+fn blocks(bytes: &[u8]) -> Vec<[u8; 8]> {
+    bytes.chunks(8).map(|b| b.try_into().unwrap()).collect()
+}
+
+/// Start block by the paper: write number, slot, two zero bytes, sealed.
+fn start(key: &[u8], number: u32, slot: usize) -> [u8; 8] {
+    let mut plain = [0; 8];
+    plain[..4].copy_from_slice(&number.to_be_bytes());
+    plain[4..6].copy_from_slice(&(slot as u16).to_be_bytes());
+    encrypt(key, plain)
+}
+
+/// Check by the paper: CMAC of write number, slot, length, sealed field.
+fn check(key: &[u8], number: u32, slot: usize, length: u16, field: &[u8]) -> [u8; 8] {
+    let mut message = number.to_be_bytes().to_vec();
+    message.extend((slot as u16).to_be_bytes());
+    message.extend(length.to_be_bytes());
+    message.extend(field);
+    assert_eq!(message.len(), 200);
+    cmac(key, &message)
+}
+
+/// Puts a slot together by hand: 192 plain bytes, sealed, with a true check.
+fn put(
+    keys: &(Vec<u8>, Vec<u8>),
+    sheet: &mut [u8],
+    number: u32,
+    slot: usize,
+    length: u16,
+    plain: [u8; 192],
+) {
+    let n = (sheet.len() - 8) / 208;
+    let field = cbc_encrypt(
+        &|block| encrypt(&keys.0, block),
+        start(&keys.0, number, slot),
+        &blocks(&plain),
+    )
+    .concat();
+    let mark = 8 + 16 * slot;
+    sheet[mark..mark + 4].copy_from_slice(&number.to_be_bytes());
+    sheet[mark + 4..mark + 6].copy_from_slice(&length.to_be_bytes());
+    sheet[mark + 6..mark + 8].copy_from_slice(&[0, 0]);
+    let mac = check(&keys.1, number, slot, length, &field);
+    sheet[mark + 8..mark + 16].copy_from_slice(&mac);
+    let place = 8 + 16 * n + 192 * slot;
+    sheet[place..place + 192].copy_from_slice(&field);
+}
+
+/// A sheet with a caption in every slot.
+fn full_sheet(random: &mut Random, keys: &(Vec<u8>, Vec<u8>), n: usize, t: usize) -> Vec<u8> {
+    let mut sheet = blank_sheet(n, t);
+    for slot in 0..n {
+        let length = random.below(193);
+        let caption = random.bytes(length);
+        assert_eq!(write(keys, &mut sheet, slot, &caption), accepted(0));
+    }
+    sheet
+}
+
+#[test]
+fn blanking_stores_n_t_edition_1_and_zeros() {
+    for t in CLASSES {
+        for n in [1usize, 2, 3, 255, 256] {
+            let sheet = blank_sheet(n, t);
+            let header = [(n / 256) as u8, (n % 256) as u8, t as u8, 1, 0, 0, 0, 0];
+            assert_eq!(sheet[..8], header);
+            assert_eq!(sheet[8..], vec![0; 208 * n]);
+        }
+    }
+}
+
+#[test]
+fn a_write_stores_header_mark_and_field_and_nothing_else() {
+    let mut random = Random::new(50);
+    for t in CLASSES {
+        for length in [0, 1, 7, 8, 9, 100, 191, 192] {
+            let keys = pair(&mut random, t);
+            let slot = random.below(3);
+            let mut sheet = full_sheet(&mut random, &keys, 3, t);
+            let w = random.next() as u32 >> 1 | 0x10;
+            set_w(&mut sheet, w);
+            let mut expected = sheet.clone();
+
+            let caption = random.bytes(length);
+            assert_eq!(write(&keys, &mut sheet, slot, &caption), accepted(0));
+
+            set_w(&mut expected, w + 1);
+            let plain = shown(&caption);
+            put(&keys, &mut expected, w + 1, slot, length as u16, plain);
+            assert_eq!(sheet, expected);
+        }
+    }
+}
+
+#[test]
+fn a_write_into_slot_255_of_256_has_its_slot_in_start_block_and_check() {
+    let mut random = Random::new(51);
+    let keys = pair(&mut random, 8);
+    let mut sheet = blank_sheet(256, 8);
+    let mut expected = sheet.clone();
+    assert_eq!(write(&keys, &mut sheet, 255, b"far"), accepted(0));
+    set_w(&mut expected, 1);
+    put(&keys, &mut expected, 1, 255, 3, shown(b"far"));
+    assert_eq!(sheet, expected);
+}
+
+#[test]
+fn every_block_of_the_field_is_sealed_however_short_the_caption() {
+    let mut random = Random::new(52);
+    for t in CLASSES {
+        let keys = pair(&mut random, t);
+        let mut sheet = blank_sheet(1, t);
+        assert_eq!(write(&keys, &mut sheet, 0, b""), accepted(0));
+        for block in sheet[24..].chunks(8) {
+            assert_ne!(block, [0; 8]);
+        }
+    }
+}
+
+#[test]
+fn two_writes_of_one_caption_are_stored_unlike() {
+    let mut random = Random::new(53);
+    let keys = pair(&mut random, 6);
+    let mut sheet = blank_sheet(2, 6);
+    write(&keys, &mut sheet, 0, b"same");
+    write(&keys, &mut sheet, 1, b"same");
+    let (first, second) = sheet[40..].split_at(192);
+    assert_ne!(first, second);
+}
+
+#[test]
+fn every_length_is_read_back() {
+    let mut random = Random::new(54);
+    for t in CLASSES {
+        let keys = pair(&mut random, t);
+        let mut sheet = blank_sheet(1, t);
+        for length in 0..=192 {
+            let caption = random.bytes(length);
+            assert_eq!(write(&keys, &mut sheet, 0, &caption), accepted(0));
+            assert_eq!(w_of(&sheet), length as u32 + 1);
+            let before = sheet.clone();
+            let read = read(&keys, &sheet, 0);
+            assert_eq!(read, (accepted(length as u16), shown(&caption)));
+            assert_eq!(sheet, before);
+        }
+    }
+}
+
+#[test]
+fn a_caption_of_zero_bytes_keeps_its_length() {
+    let mut random = Random::new(55);
+    let keys = pair(&mut random, 4);
+    let mut sheet = blank_sheet(1, 4);
+    for length in [0, 1, 8, 192] {
+        assert_eq!(write(&keys, &mut sheet, 0, &vec![0; length]), accepted(0));
+        assert_eq!(read(&keys, &sheet, 0), (accepted(length as u16), [0; 192]));
+    }
+}
+
+#[test]
+fn a_clear_makes_208_bytes_zero_keeps_w_and_touches_nothing_else() {
+    let mut random = Random::new(56);
+    for t in CLASSES {
+        let keys = pair(&mut random, t);
+        for slot in 0..3 {
+            let mut sheet = full_sheet(&mut random, &keys, 3, t);
+            let mut expected = sheet.clone();
+            expected[8 + 16 * slot..8 + 16 * (slot + 1)].fill(0);
+            expected[56 + 192 * slot..56 + 192 * (slot + 1)].fill(0);
+            assert_eq!(reference::clear(&mut sheet, slot), accepted(0));
+            assert_eq!(sheet, expected);
+            assert_eq!(w_of(&sheet), 3);
+            // Clearing a blank slot is accepted.
+            assert_eq!(reference::clear(&mut sheet, slot), accepted(0));
+            assert_eq!(sheet, expected);
+            assert_eq!(read(&keys, &sheet, slot), (refused(9), [0; 192]));
+        }
+    }
+}
+
+#[test]
+fn a_write_and_a_clear_test_nothing_of_the_former_content_beyond_the_layout() {
+    let mut random = Random::new(57);
+    let keys = pair(&mut random, 4);
+    let mut sheet = full_sheet(&mut random, &keys, 2, 4);
+    sheet[40] ^= 1;
+    sheet[40 + 192] ^= 1;
+    assert_eq!(read(&keys, &sheet, 0), (refused(10), [0; 192]));
+    assert_eq!(read(&keys, &sheet, 1), (refused(10), [0; 192]));
+    assert_eq!(write(&keys, &mut sheet, 0, b"new"), accepted(0));
+    assert_eq!(reference::clear(&mut sheet, 1), accepted(0));
+    assert_eq!(read(&keys, &sheet, 0), (accepted(3), shown(b"new")));
+    assert_eq!(read(&keys, &sheet, 1), (refused(9), [0; 192]));
+}
+
+#[test]
+fn a_slot_altered_in_any_byte_is_not_read() {
+    let mut random = Random::new(58);
+    for t in CLASSES {
+        let keys = pair(&mut random, t);
+        let sheet = full_sheet(&mut random, &keys, 2, t);
+        for place in (24..40).chain(40 + 192..40 + 384) {
+            let mut altered = sheet.clone();
+            altered[place] ^= 1 << random.below(8);
+            let number = if reference::fit(&altered) { 10 } else { 4 };
+            assert_eq!(read(&keys, &altered, 1), (refused(number), [0; 192]));
+            // The other slot is read as long as the sheet fits.
+            let (answer, _) = read(&keys, &altered, 0);
+            assert_eq!(answer.number, if number == 4 { 4 } else { 0 });
+        }
+    }
+}
+
+#[test]
+fn a_slot_moved_to_another_place_is_altered() {
+    let mut random = Random::new(59);
+    let keys = pair(&mut random, 6);
+    let mut sheet = full_sheet(&mut random, &keys, 2, 6);
+    sheet.copy_within(8..24, 24);
+    sheet.copy_within(40..40 + 192, 40 + 192);
+    assert_eq!(read(&keys, &sheet, 0).0.number, 0);
+    assert_eq!(read(&keys, &sheet, 1), (refused(10), [0; 192]));
+}
+
+#[test]
+fn an_opened_byte_at_or_past_the_length_must_be_zero() {
+    let mut random = Random::new(60);
+    for t in CLASSES {
+        let keys = pair(&mut random, t);
+        for length in [0, 1, 8, 100, 191, 192] {
+            let caption = random.bytes(length);
+            let mut sheet = blank_sheet(2, t);
+            set_w(&mut sheet, 77);
+            for place in [0, 1, 7, 8, 9, 99, 100, 101, 190, 191] {
+                let mut plain = shown(&caption);
+                plain[place] = 0x80;
+                put(&keys, &mut sheet, 42, 1, length as u16, plain);
+                let expected = if place < length {
+                    (accepted(length as u16), plain)
+                } else {
+                    (refused(10), [0; 192])
+                };
+                assert_eq!(read(&keys, &sheet, 1), expected);
+            }
+        }
+    }
+}
+
+#[test]
+fn a_read_with_either_key_wrong_is_altered() {
+    let mut random = Random::new(61);
+    for t in CLASSES {
+        let keys = pair(&mut random, t);
+        let sheet = full_sheet(&mut random, &keys, 1, t);
+        let mut other_checking = keys.clone();
+        other_checking.1[0] ^= 1;
+        assert_eq!(read(&other_checking, &sheet, 0), (refused(10), [0; 192]));
+        // A wrong sealing key is met by the zero bytes, if the caption leaves any.
+        let mut short = blank_sheet(1, t);
+        write(&keys, &mut short, 0, b"short");
+        let mut other_sealing = keys.clone();
+        other_sealing.0[0] ^= 1;
+        assert_eq!(read(&other_sealing, &short, 0), (refused(10), [0; 192]));
+    }
+}

@@ -1,0 +1,93 @@
+//! Short ways of calling the program.
+
+use crate::random::Random;
+use reference::Answer;
+
+pub const CLASSES: [usize; 3] = [4, 6, 8];
+
+/// Bytes of hex digits; blanks don't count.
+pub fn hex(digits: &str) -> Vec<u8> {
+    let digits: Vec<u32> = digits.chars().filter_map(|c| c.to_digit(16)).collect();
+    digits
+        .chunks(2)
+        .map(|pair| (16 * pair[0] + pair[1]) as u8)
+        .collect()
+}
+
+pub fn hex_block(digits: &str) -> [u8; 8] {
+    hex(digits).try_into().unwrap()
+}
+
+/// Key bytes of key words.
+pub fn key_of_words(words: &[u16]) -> Vec<u8> {
+    words.iter().flat_map(|word| word.to_be_bytes()).collect()
+}
+
+pub fn accepted(length: u16) -> Answer {
+    Answer { number: 0, length }
+}
+
+pub fn refused(number: u8) -> Answer {
+    Answer { number, length: 0 }
+}
+
+pub fn encrypt(key: &[u8], block: [u8; 8]) -> [u8; 8] {
+    let mut out = [0; 8];
+    assert_eq!(reference::encrypt_block(key, &block, &mut out), accepted(0));
+    out
+}
+
+pub fn decrypt(key: &[u8], block: [u8; 8]) -> [u8; 8] {
+    let mut out = [0; 8];
+    assert_eq!(reference::decrypt_block(key, &block, &mut out), accepted(0));
+    out
+}
+
+pub fn cmac(key: &[u8], message: &[u8]) -> [u8; 8] {
+    let mut out = [0; 8];
+    assert_eq!(reference::cmac(key, message, &mut out), accepted(0));
+    out
+}
+
+/// Two unlike keys of a class.
+pub fn pair(random: &mut Random, t: usize) -> (Vec<u8>, Vec<u8>) {
+    let sealing = random.bytes(2 * t);
+    let mut checking = random.bytes(2 * t);
+    if checking == sealing {
+        checking[0] ^= 1;
+    }
+    (sealing, checking)
+}
+
+/// A blank sheet.
+pub fn blank_sheet(n: usize, t: usize) -> Vec<u8> {
+    let mut sheet = vec![0xa5; 8 + 208 * n];
+    assert_eq!(reference::blank(&mut sheet, n, t), accepted(0));
+    sheet
+}
+
+pub fn set_w(sheet: &mut [u8], w: u32) {
+    sheet[4..8].copy_from_slice(&w.to_be_bytes());
+}
+
+pub fn w_of(sheet: &[u8]) -> u32 {
+    u32::from_be_bytes(sheet[4..8].try_into().unwrap())
+}
+
+/// A read with a window of 192 bytes.
+pub fn read(keys: &(Vec<u8>, Vec<u8>), sheet: &[u8], slot: usize) -> (Answer, [u8; 192]) {
+    let mut window = [0x5a; 192];
+    let answer = reference::read(&keys.0, &keys.1, sheet, slot, &mut window);
+    (answer, window)
+}
+
+pub fn write(keys: &(Vec<u8>, Vec<u8>), sheet: &mut [u8], slot: usize, caption: &[u8]) -> Answer {
+    reference::write(&keys.0, &keys.1, sheet, slot, caption)
+}
+
+/// A window that shows a caption.
+pub fn shown(caption: &[u8]) -> [u8; 192] {
+    let mut window = [0; 192];
+    window[..caption.len()].copy_from_slice(caption);
+    window
+}

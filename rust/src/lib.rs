@@ -1,0 +1,283 @@
+//! Caption sheets: safe functions over the proved library.
+//!
+//! A sheet is a buffer of bytes with up to 256 slots, each blank or holding a
+//! caption of up to 192 bytes, sealed under one key and checked under another.
+//! Everything that decides is in the proved library; this crate lends it slices
+//! and gives its answers Rust's types. Any length and any number may be given:
+//! what the library can't use, it refuses. Nothing here panics.
+//!
+//! ```
+//! use captions::{blank, list, read, sheet_len, write, Refusal, FIELD};
+//!
+//! let sealing_key = *b"seal it.";
+//! let checking_key = *b"check it";
+//! let mut sheet = vec![0; sheet_len(2)];
+//! blank(&mut sheet, 2, 4)?;
+//! write(&sealing_key, &checking_key, &mut sheet, 1, b"Vase, 1751")?;
+//!
+//! let mut window = [0; FIELD];
+//! let length = read(&sealing_key, &checking_key, &sheet, 1, &mut window)?;
+//! assert_eq!(&window[..length], b"Vase, 1751");
+//! assert_eq!(list(&sheet), b"slots 2 key 64 last 1\n0 blank\n1 written 1 10\n");
+//!
+//! let refusal = read(&sealing_key, &checking_key, &sheet, 2, &mut window).unwrap_err();
+//! assert_eq!(refusal, Refusal::NoSuchSlot);
+//! assert_eq!(refusal.number(), 6);
+//! assert_eq!(refusal.to_string(), "no such slot");
+//! # Ok::<(), Refusal>(())
+//! ```
+//!
+//! The library is linked from `target/staticlib/libcaptions_c.a`, which
+//! `rt staticlib captions_c` makes in the repository root. It is for x86-64.
+
+#![warn(missing_docs)]
+
+mod library;
+mod refusal;
+
+use library::Answer;
+pub use refusal::Refusal;
+
+/// The bytes of a block, and of its output.
+pub const BLOCK: usize = 8;
+/// The bytes of a check (CMAC).
+pub const CHECK: usize = 8;
+/// The bytes of a sheet before its marks.
+pub const HEADER: usize = 8;
+/// The bytes of a slot's mark.
+pub const MARK: usize = 16;
+/// The bytes of a sealed field, of a window and of the longest caption.
+pub const FIELD: usize = 192;
+/// The most slots of a sheet.
+pub const SLOTS: usize = 256;
+/// The bytes of the longest listing.
+pub const LISTING: usize = 6836;
+
+/// The bytes of a sheet with that many slots; `usize::MAX` where that is less.
+///
+/// ```
+/// assert_eq!(captions::sheet_len(1), 216);
+/// assert_eq!(captions::sheet_len(captions::SLOTS), 53256);
+/// ```
+pub const fn sheet_len(slots: usize) -> usize {
+    slots.saturating_mul(MARK + FIELD).saturating_add(HEADER)
+}
+
+/// Seals (encrypts) one block of 8 bytes into `out`, 8 bytes too.
+///
+/// Bit r - 1 of `path`, from the lowest, is 1 for the word path in round r and
+/// 0 for the nibble path; the top four bits count for nothing. Every path gives
+/// the same bytes, so 0xffff, the word path throughout, will do.
+///
+/// # Errors
+///
+/// [`Refusal::WrongKey`] and [`Refusal::WrongSpan`]; `out` is then as it was.
+///
+/// ```
+/// use captions::{encrypt_block, Refusal};
+///
+/// let key = [0x0d, 0x2a, 0x47, 0x64, 0x81, 0x9e, 0xbb, 0xd8];
+/// let block = [0x07, 0x3c, 0x71, 0xa6, 0xdb, 0x10, 0x45, 0x7a];
+/// let mut out = [0; 8];
+/// encrypt_block(&key, &block, 0xffff, &mut out)?;
+/// assert_eq!(out, [0x6d, 0x36, 0xf5, 0x95, 0xbc, 0x53, 0x69, 0x58]);
+/// assert_eq!(encrypt_block(&key[..7], &block, 0, &mut out), Err(Refusal::WrongKey));
+/// # Ok::<(), Refusal>(())
+/// ```
+pub fn encrypt_block(key: &[u8], block: &[u8], path: u16, out: &mut [u8]) -> Result<(), Refusal> {
+    done(library::encrypt_block(key, block, path, out))
+}
+
+/// Opens (decrypts) one block of 8 bytes into `out`, 8 bytes too; `path` is as
+/// for [`encrypt_block`].
+///
+/// # Errors
+///
+/// [`Refusal::WrongKey`] and [`Refusal::WrongSpan`]; `out` is then as it was.
+///
+/// ```
+/// use captions::{decrypt_block, encrypt_block, Refusal};
+///
+/// let (key, block) = ([7; 16], *b"8 bytes.");
+/// let (mut sealed, mut opened) = ([0; 8], [0; 8]);
+/// encrypt_block(&key, &block, 0xffff, &mut sealed)?;
+/// decrypt_block(&key, &sealed, 0, &mut opened)?;
+/// assert_eq!(opened, block);
+/// assert_eq!(decrypt_block(&key, &sealed[..7], 0, &mut opened), Err(Refusal::WrongSpan));
+/// # Ok::<(), Refusal>(())
+/// ```
+pub fn decrypt_block(key: &[u8], block: &[u8], path: u16, out: &mut [u8]) -> Result<(), Refusal> {
+    done(library::decrypt_block(key, block, path, out))
+}
+
+/// Puts the check (CMAC) of a message of any length into `out`, 8 bytes.
+///
+/// # Errors
+///
+/// [`Refusal::WrongKey`] and [`Refusal::WrongSpan`]; `out` is then as it was.
+///
+/// ```
+/// use captions::{cmac, Refusal};
+///
+/// let key = [0x0d, 0x2a, 0x47, 0x64, 0x81, 0x9e, 0xbb, 0xd8];
+/// let mut check = [0; 8];
+/// cmac(&key, b"", &mut check)?;
+/// assert_eq!(check, [0x45, 0x8c, 0x78, 0xc4, 0x09, 0xd6, 0x7d, 0xdb]);
+/// assert_eq!(cmac(&key, b"", &mut check[..7]), Err(Refusal::WrongSpan));
+/// # Ok::<(), Refusal>(())
+/// ```
+pub fn cmac(key: &[u8], message: &[u8], out: &mut [u8]) -> Result<(), Refusal> {
+    done(library::cmac(key, message, out))
+}
+
+/// Makes a buffer of [`sheet_len`]`(slots)` bytes a sheet of blank slots, for
+/// keys of `key_words` 16-bit words: 4, 6 or 8 for keys of 8, 12 or 16 bytes.
+/// What the buffer held doesn't matter.
+///
+/// # Errors
+///
+/// [`Refusal::WrongKey`] for another number of words, [`Refusal::WrongSpan`]
+/// for `slots` outside 1 to 256 or a buffer of another length; `sheet` is then
+/// as it was.
+///
+/// ```
+/// use captions::{blank, list, sheet_len, Refusal};
+///
+/// let mut sheet = vec![0xff; sheet_len(2)];
+/// blank(&mut sheet, 2, 4)?;
+/// assert_eq!(list(&sheet), b"slots 2 key 64 last 0\n0 blank\n1 blank\n");
+/// assert_eq!(blank(&mut sheet, 2, 5), Err(Refusal::WrongKey));
+/// assert_eq!(blank(&mut sheet, 3, 4), Err(Refusal::WrongSpan));
+/// # Ok::<(), Refusal>(())
+/// ```
+pub fn blank(sheet: &mut [u8], slots: usize, key_words: usize) -> Result<(), Refusal> {
+    done(library::blank(sheet, slots, key_words))
+}
+
+/// Writes a caption of 0 to 192 bytes into a slot, counted from 0, in place of
+/// what the slot held. One pair of keys serves a sheet: the library doesn't
+/// know which pair the other slots were written with.
+///
+/// # Errors
+///
+/// [`Refusal::WrongKey`], [`Refusal::TwinKeys`], [`Refusal::UnfitSheet`],
+/// [`Refusal::OtherKeyClass`], [`Refusal::NoSuchSlot`], [`Refusal::Overlong`]
+/// and [`Refusal::Worn`]; `sheet` is then as it was.
+///
+/// ```
+/// use captions::{blank, list, sheet_len, write, Refusal};
+///
+/// let (sealing_key, checking_key) = ([1; 12], [2; 12]);
+/// let mut sheet = vec![0; sheet_len(1)];
+/// blank(&mut sheet, 1, 6)?;
+/// write(&sealing_key, &checking_key, &mut sheet, 0, b"Clock")?;
+/// write(&sealing_key, &checking_key, &mut sheet, 0, b"Clock, 1790")?;
+/// assert_eq!(list(&sheet), b"slots 1 key 96 last 2\n0 written 2 11\n");
+/// let overlong = [b'x'; 193];
+/// let answer = write(&sealing_key, &checking_key, &mut sheet, 0, &overlong);
+/// assert_eq!(answer, Err(Refusal::Overlong));
+/// # Ok::<(), Refusal>(())
+/// ```
+pub fn write(
+    sealing_key: &[u8],
+    checking_key: &[u8],
+    sheet: &mut [u8],
+    slot: usize,
+    caption: &[u8],
+) -> Result<(), Refusal> {
+    done(library::write(
+        sealing_key,
+        checking_key,
+        sheet,
+        slot,
+        caption,
+    ))
+}
+
+/// Makes a slot blank; a blank one stays blank.
+///
+/// # Errors
+///
+/// [`Refusal::UnfitSheet`] and [`Refusal::NoSuchSlot`]; `sheet` is then as it
+/// was.
+///
+/// ```
+/// use captions::{blank, clear, list, sheet_len, write, Refusal};
+///
+/// let mut sheet = vec![0; sheet_len(1)];
+/// blank(&mut sheet, 1, 4)?;
+/// write(&[1; 8], &[2; 8], &mut sheet, 0, b"Clock")?;
+/// clear(&mut sheet, 0)?;
+/// assert_eq!(list(&sheet), b"slots 1 key 64 last 1\n0 blank\n");
+/// assert_eq!(clear(&mut sheet, 1), Err(Refusal::NoSuchSlot));
+/// # Ok::<(), Refusal>(())
+/// ```
+pub fn clear(sheet: &mut [u8], slot: usize) -> Result<(), Refusal> {
+    done(library::clear(sheet, slot))
+}
+
+/// Reads a slot: the window, [`FIELD`] bytes, gets the caption and then zero
+/// bytes. Gives the caption's length.
+///
+/// # Errors
+///
+/// [`Refusal::WrongKey`], [`Refusal::TwinKeys`], [`Refusal::WrongSpan`],
+/// [`Refusal::UnfitSheet`], [`Refusal::OtherKeyClass`],
+/// [`Refusal::NoSuchSlot`], [`Refusal::Blank`] and [`Refusal::Altered`]; every
+/// byte of the window is then zero, whatever its length.
+///
+/// ```
+/// use captions::{blank, read, sheet_len, write, Refusal, FIELD};
+///
+/// let mut sheet = vec![0; sheet_len(2)];
+/// blank(&mut sheet, 2, 4)?;
+/// write(&[1; 8], &[2; 8], &mut sheet, 0, b"Clock")?;
+/// let mut window = [0xff; FIELD];
+/// let length = read(&[1; 8], &[2; 8], &sheet, 0, &mut window)?;
+/// assert_eq!(&window[..length], b"Clock");
+/// assert_eq!(read(&[1; 8], &[2; 8], &sheet, 1, &mut window), Err(Refusal::Blank));
+/// assert_eq!(window, [0; FIELD]);
+/// assert_eq!(read(&[1; 8], &[3; 8], &sheet, 0, &mut window), Err(Refusal::Altered));
+/// # Ok::<(), Refusal>(())
+/// ```
+pub fn read(
+    sealing_key: &[u8],
+    checking_key: &[u8],
+    sheet: &[u8],
+    slot: usize,
+    window: &mut [u8],
+) -> Result<usize, Refusal> {
+    let answer = library::read(sealing_key, checking_key, sheet, slot, window);
+    accepted(answer).map(usize::from)
+}
+
+/// The listing of a sheet: slot count, key bits and last write number, then a
+/// line for each slot. An unfit sheet is listed as `unfit`.
+///
+/// ```
+/// use captions::list;
+///
+/// let mut sheet = vec![0; 424];
+/// sheet[..4].copy_from_slice(&[0, 2, 4, 1]);
+/// assert_eq!(list(&sheet), b"slots 2 key 64 last 0\n0 blank\n1 blank\n");
+/// assert_eq!(list(b"no sheet"), b"unfit\n");
+/// ```
+pub fn list(sheet: &[u8]) -> Vec<u8> {
+    let mut listing = vec![0; LISTING];
+    let length = library::list(sheet, &mut listing);
+    listing.truncate(length);
+    listing
+}
+
+/// The length that an accepted call answers, or the refusal.
+fn accepted(answer: Answer) -> Result<u16, Refusal> {
+    match Refusal::of_number(answer.number) {
+        None => Ok(answer.length),
+        Some(refusal) => Err(refusal),
+    }
+}
+
+/// An accepted call that has no length to give, or the refusal.
+fn done(answer: Answer) -> Result<(), Refusal> {
+    accepted(answer).map(|_| ())
+}

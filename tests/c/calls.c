@@ -1,0 +1,421 @@
+/* Calls every function of captions.h from C: each call accepted, each of its
+ * refusals at least once, and every lent byte after it. Prints a count; exits
+ * with 1 if a check fails. */
+#include "captions.h"
+
+#include <stdio.h>
+#include <string.h>
+
+static unsigned long checks, failures;
+
+#define CHECK(holds)                                                           \
+    do {                                                                       \
+        checks++;                                                              \
+        if (!(holds)) {                                                        \
+            failures++;                                                        \
+            fprintf(stderr, "%s:%d: %s\n", __FILE__, __LINE__, #holds);        \
+        }                                                                      \
+    } while (0)
+
+#define SLOTS 3
+#define SHEET CAPTIONS_SHEET(SLOTS)
+#define UNTOUCHED 0xa5
+
+/* One byte more than the longest key; a call takes as many as it is told. */
+static const uint8_t sealing[17] = {0x0d, 0x2a, 0x47, 0x64, 0x81, 0x9e,
+                                    0xbb, 0xd8, 0xf5, 0x12, 0x2f, 0x4c,
+                                    0x69, 0x86, 0xa3, 0xc0, 0xdd};
+static const uint8_t checking[17] = {1,  2,  3,  4,  5,  6,  7,  8, 9,
+                                     10, 11, 12, 13, 14, 15, 16, 17};
+
+static int is(captions_answer answer, int number, int length)
+{
+    return answer.number == number && answer.length == length;
+}
+
+static int refused(captions_answer answer, int number)
+{
+    return is(answer, number, 0);
+}
+
+static int accepted(captions_answer answer)
+{
+    return is(answer, CAPTIONS_ACCEPTED, 0);
+}
+
+/* Whether each of the bytes has this value. */
+static int all(const uint8_t *bytes, size_t length, uint8_t value)
+{
+    size_t i;
+    for (i = 0; i < length; i++)
+        if (bytes[i] != value)
+            return 0;
+    return 1;
+}
+
+static int same(const uint8_t *left, const uint8_t *right, size_t length)
+{
+    return memcmp(left, right, length) == 0;
+}
+
+/* ---- Blocks and CMAC; the bytes are those of `reference vectors` ---- */
+
+struct block_case {
+    size_t key_len;
+    uint8_t encrypted[CAPTIONS_BLOCK], decrypted[CAPTIONS_BLOCK];
+};
+
+static const uint8_t block[CAPTIONS_BLOCK] = {0x07, 0x3c, 0x71, 0xa6,
+                                              0xdb, 0x10, 0x45, 0x7a};
+static const struct block_case block_cases[] = {
+    {8,
+     {0x6d, 0x36, 0xf5, 0x95, 0xbc, 0x53, 0x69, 0x58},
+     {0x66, 0x2f, 0x3b, 0x4e, 0xa4, 0xba, 0xce, 0x4e}},
+    {12,
+     {0x00, 0x6c, 0x52, 0x2a, 0x6e, 0x57, 0xb6, 0xd5},
+     {0xe1, 0x27, 0x96, 0x27, 0xe5, 0xef, 0xcb, 0x66}},
+    {16,
+     {0x80, 0xbd, 0x6f, 0xb5, 0x41, 0x88, 0x59, 0x28},
+     {0xc1, 0xc9, 0x70, 0xa8, 0x7a, 0x6a, 0xf9, 0x6a}},
+};
+static const uint16_t paths[] = {0, 1, 0x0555, 0x0800, 0x0fff, 0xf000, 0xffff};
+
+static void blocks_by_every_path(void)
+{
+    size_t i, j;
+    for (i = 0; i < sizeof block_cases / sizeof block_cases[0]; i++)
+        for (j = 0; j < sizeof paths / sizeof paths[0]; j++) {
+            const struct block_case *c = &block_cases[i];
+            uint8_t out[CAPTIONS_BLOCK], back[CAPTIONS_BLOCK];
+            CHECK(accepted(captions_encrypt_block(sealing, c->key_len, block,
+                                                  8, paths[j], out, 8)));
+            CHECK(same(out, c->encrypted, 8));
+            CHECK(accepted(captions_decrypt_block(sealing, c->key_len, out, 8,
+                                                  paths[j], back, 8)));
+            CHECK(same(back, block, 8));
+            CHECK(accepted(captions_decrypt_block(sealing, c->key_len, block,
+                                                  8, paths[j], out, 8)));
+            CHECK(same(out, c->decrypted, 8));
+        }
+}
+
+typedef captions_answer block_call(const uint8_t *, size_t, const uint8_t *,
+                                   size_t, uint16_t, uint8_t *, size_t);
+
+static void block_refusals(block_call *call)
+{
+    static const size_t wrong_keys[] = {0, 7, 9, 11, 13, 15, 17};
+    uint8_t out[9];
+    size_t i;
+    memset(out, UNTOUCHED, sizeof out);
+    for (i = 0; i < sizeof wrong_keys / sizeof wrong_keys[0]; i++)
+        CHECK(refused(call(sealing, wrong_keys[i], block, 8, 0, out, 8),
+                      CAPTIONS_WRONG_KEY));
+    CHECK(refused(call(sealing, 7, block, 7, 0, out, 7), CAPTIONS_WRONG_KEY));
+    CHECK(refused(call(sealing, 8, block, 7, 0, out, 8), CAPTIONS_WRONG_SPAN));
+    CHECK(refused(call(sealing, 8, block, 0, 0, out, 8), CAPTIONS_WRONG_SPAN));
+    CHECK(refused(call(sealing, 8, block, 8, 0, out, 7), CAPTIONS_WRONG_SPAN));
+    CHECK(refused(call(sealing, 8, block, 8, 0, out, 9), CAPTIONS_WRONG_SPAN));
+    CHECK(refused(call(sealing, 8, block, 8, 0, out, 0), CAPTIONS_WRONG_SPAN));
+    CHECK(all(out, sizeof out, UNTOUCHED));
+    CHECK(accepted(call(sealing, 8, block, 8, 0, out, 8)));
+    CHECK(out[8] == UNTOUCHED);
+}
+
+/* Nine bytes under the key of number 9; nothing under the key of number 0. */
+static void checks_by_cmac(void)
+{
+    static const uint8_t key[8] = {0x8c, 0xa9, 0xc6, 0xe3,
+                                   0x00, 0x1d, 0x3a, 0x57};
+    static const uint8_t message[9] = {0x1e, 0x53, 0x88, 0xbd, 0xf2,
+                                       0x27, 0x5c, 0x91, 0xc6};
+    static const uint8_t of_nine[] = {0x3a, 0xde, 0xf6, 0xaa,
+                                      0x95, 0x6d, 0x08, 0xcd};
+    static const uint8_t of_none[] = {0x45, 0x8c, 0x78, 0xc4,
+                                      0x09, 0xd6, 0x7d, 0xdb};
+    uint8_t out[9];
+    memset(out, UNTOUCHED, sizeof out);
+    CHECK(refused(captions_cmac(key, 7, message, 9, out, 8),
+                  CAPTIONS_WRONG_KEY));
+    CHECK(refused(captions_cmac(key, 0, message, 0, out, 7),
+                  CAPTIONS_WRONG_KEY));
+    CHECK(refused(captions_cmac(key, 8, message, 9, out, 7),
+                  CAPTIONS_WRONG_SPAN));
+    CHECK(refused(captions_cmac(key, 8, message, 9, out, 9),
+                  CAPTIONS_WRONG_SPAN));
+    CHECK(all(out, sizeof out, UNTOUCHED));
+    CHECK(accepted(captions_cmac(key, 8, message, 9, out, 8)));
+    CHECK(same(out, of_nine, 8) && out[8] == UNTOUCHED);
+    CHECK(accepted(captions_cmac(sealing, 8, message, 0, out, 8)));
+    CHECK(same(out, of_none, 8));
+}
+
+/* ---- Sheets ---- */
+
+static captions_answer write_as(uint8_t *sheet, size_t key_len, size_t slot,
+                                const void *caption, size_t length)
+{
+    return captions_write(sealing, key_len, checking, key_len, sheet, SHEET,
+                          slot, (const uint8_t *)caption, length);
+}
+
+static captions_answer read_as(const uint8_t *sheet, size_t key_len,
+                               size_t slot, uint8_t *window)
+{
+    return captions_read(sealing, key_len, checking, key_len, sheet, SHEET,
+                         slot, window, CAPTIONS_FIELD);
+}
+
+static void blanking(void)
+{
+    uint8_t sheet[SHEET + 1], header[CAPTIONS_HEADER] = {0, SLOTS, 6, 1};
+    memset(sheet, UNTOUCHED, sizeof sheet);
+    CHECK(refused(captions_blank(sheet, SHEET, SLOTS, 5), CAPTIONS_WRONG_KEY));
+    CHECK(refused(captions_blank(sheet, 0, 0, 0), CAPTIONS_WRONG_KEY));
+    CHECK(refused(captions_blank(sheet, CAPTIONS_HEADER, 0, 4),
+                  CAPTIONS_WRONG_SPAN));
+    CHECK(refused(captions_blank(sheet, SHEET, 257, 4), CAPTIONS_WRONG_SPAN));
+    CHECK(refused(captions_blank(sheet, SHEET, (size_t)-1, 4),
+                  CAPTIONS_WRONG_SPAN));
+    CHECK(refused(captions_blank(sheet, SHEET - 1, SLOTS, 4),
+                  CAPTIONS_WRONG_SPAN));
+    CHECK(refused(captions_blank(sheet, SHEET + 1, SLOTS, 4),
+                  CAPTIONS_WRONG_SPAN));
+    CHECK(all(sheet, sizeof sheet, UNTOUCHED));
+    CHECK(accepted(captions_blank(sheet, SHEET, SLOTS, 6)));
+    CHECK(same(sheet, header, CAPTIONS_HEADER));
+    CHECK(all(sheet + CAPTIONS_HEADER, SHEET - CAPTIONS_HEADER, 0));
+    CHECK(sheet[SHEET] == UNTOUCHED);
+}
+
+/* A caption goes in and comes out, at each key length. */
+static void writing_and_reading(size_t key_len)
+{
+    static const char first[] = "Vase, 1752", second[] = "Vase, 1751";
+    uint8_t sheet[SHEET], before[SHEET], window[CAPTIONS_FIELD];
+    uint8_t longest[CAPTIONS_FIELD];
+    memset(longest, 'x', sizeof longest);
+    CHECK(accepted(captions_blank(sheet, SHEET, SLOTS, key_len / 2)));
+    CHECK(accepted(write_as(sheet, key_len, 0, first, sizeof first - 1)));
+    CHECK(sheet[7] == 1);
+    CHECK(accepted(write_as(sheet, key_len, 2, longest, sizeof longest)));
+    CHECK(accepted(write_as(sheet, key_len, 0, second, sizeof second - 1)));
+    CHECK(sheet[7] == 3);
+
+    memset(window, UNTOUCHED, sizeof window);
+    CHECK(is(read_as(sheet, key_len, 0, window), 0, sizeof second - 1));
+    CHECK(memcmp(window, second, sizeof second - 1) == 0);
+    CHECK(all(window + sizeof second - 1, sizeof window - sizeof second + 1,
+              0));
+    CHECK(is(read_as(sheet, key_len, 2, window), 0, CAPTIONS_FIELD));
+    CHECK(same(window, longest, sizeof longest));
+    CHECK(refused(read_as(sheet, key_len, 1, window), CAPTIONS_BLANK));
+    CHECK(all(window, sizeof window, 0));
+
+    CHECK(accepted(write_as(sheet, key_len, 1, first, 0)));
+    CHECK(is(read_as(sheet, key_len, 1, window), 0, 0));
+    CHECK(all(window, sizeof window, 0));
+
+    memcpy(before, sheet, SHEET);
+    CHECK(accepted(captions_clear(sheet, SHEET, 0)));
+    CHECK(same(sheet, before, CAPTIONS_HEADER));
+    CHECK(all(sheet + CAPTIONS_HEADER, CAPTIONS_MARK, 0));
+    CHECK(refused(read_as(sheet, key_len, 0, window), CAPTIONS_BLANK));
+    memcpy(before, sheet, SHEET);
+    CHECK(accepted(captions_clear(sheet, SHEET, 0)));
+    CHECK(same(sheet, before, SHEET));
+}
+
+/* A sheet with a caption in slot 1, for keys of 8 bytes. */
+static void make_sheet(uint8_t *sheet)
+{
+    CHECK(accepted(captions_blank(sheet, SHEET, SLOTS, 4)));
+    CHECK(accepted(write_as(sheet, 8, 1, "Clock", 5)));
+}
+
+static void write_refusals(void)
+{
+    uint8_t sheet[SHEET], before[SHEET], overlong[CAPTIONS_FIELD + 1] = {0};
+    make_sheet(sheet);
+    memcpy(before, sheet, SHEET);
+    CHECK(refused(captions_write(sealing, 7, checking, 7, sheet, SHEET, 0,
+                                 overlong, 1),
+                  CAPTIONS_WRONG_KEY));
+    CHECK(refused(captions_write(sealing, 8, checking, 12, sheet, SHEET, 0,
+                                 overlong, 1),
+                  CAPTIONS_WRONG_KEY));
+    CHECK(refused(captions_write(sealing, 8, sealing, 8, sheet, SHEET, 0,
+                                 overlong, 1),
+                  CAPTIONS_TWIN_KEYS));
+    CHECK(refused(captions_write(sealing, 8, checking, 8, sheet, SHEET - 1, 0,
+                                 overlong, 1),
+                  CAPTIONS_UNFIT_SHEET));
+    CHECK(refused(captions_write(sealing, 8, checking, 8, sheet, 0, 0,
+                                 overlong, 1),
+                  CAPTIONS_UNFIT_SHEET));
+    CHECK(refused(write_as(sheet, 12, 0, "x", 1), CAPTIONS_OTHER_KEY_CLASS));
+    CHECK(refused(write_as(sheet, 8, SLOTS, "x", 1), CAPTIONS_NO_SUCH_SLOT));
+    CHECK(refused(write_as(sheet, 8, (size_t)-1, "x", 1),
+                  CAPTIONS_NO_SUCH_SLOT));
+    CHECK(refused(write_as(sheet, 8, 0, overlong, sizeof overlong),
+                  CAPTIONS_OVERLONG));
+    CHECK(same(sheet, before, SHEET));
+
+    memset(sheet + 4, 0xff, 4);
+    memcpy(before, sheet, SHEET);
+    CHECK(refused(write_as(sheet, 8, 0, "x", 1), CAPTIONS_WORN));
+    CHECK(same(sheet, before, SHEET));
+    sheet[7] = 0xfe;
+    CHECK(accepted(write_as(sheet, 8, 0, "x", 1)));
+    CHECK(refused(write_as(sheet, 8, 0, "x", 1), CAPTIONS_WORN));
+}
+
+static void clear_refusals(void)
+{
+    uint8_t sheet[SHEET], before[SHEET];
+    make_sheet(sheet);
+    memcpy(before, sheet, SHEET);
+    CHECK(refused(captions_clear(sheet, SHEET - 1, 0), CAPTIONS_UNFIT_SHEET));
+    CHECK(refused(captions_clear(sheet, 0, 0), CAPTIONS_UNFIT_SHEET));
+    CHECK(refused(captions_clear(sheet, SHEET, SLOTS), CAPTIONS_NO_SUCH_SLOT));
+    CHECK(same(sheet, before, SHEET));
+}
+
+/* Whether a read is refused with this number and zeroes its whole window. */
+static int read_refused(int number, const uint8_t *sealing_key,
+                        size_t sealing_len, const uint8_t *checking_key,
+                        size_t checking_len, const uint8_t *sheet,
+                        size_t sheet_len, size_t slot, size_t window_len)
+{
+    uint8_t window[CAPTIONS_FIELD + 2];
+    captions_answer answer;
+    memset(window, UNTOUCHED, sizeof window);
+    answer = captions_read(sealing_key, sealing_len, checking_key,
+                           checking_len, sheet, sheet_len, slot, window,
+                           window_len);
+    return refused(answer, number) && all(window, window_len, 0) &&
+           all(window + window_len, sizeof window - window_len, UNTOUCHED);
+}
+
+static void read_refusals(void)
+{
+    uint8_t sheet[SHEET], window[CAPTIONS_FIELD];
+    size_t field = CAPTIONS_HEADER + CAPTIONS_MARK * SLOTS + CAPTIONS_FIELD;
+    make_sheet(sheet);
+    CHECK(read_refused(CAPTIONS_WRONG_KEY, sealing, 9, checking, 9, sheet,
+                       SHEET, 1, 192));
+    CHECK(read_refused(CAPTIONS_WRONG_KEY, sealing, 8, checking, 16, sheet,
+                       SHEET, 1, 192));
+    CHECK(read_refused(CAPTIONS_TWIN_KEYS, sealing, 8, sealing, 8, sheet,
+                       SHEET, 1, 192));
+    CHECK(read_refused(CAPTIONS_WRONG_SPAN, sealing, 8, checking, 8, sheet,
+                       SHEET, 1, 191));
+    CHECK(read_refused(CAPTIONS_WRONG_SPAN, sealing, 8, checking, 8, sheet,
+                       SHEET, 1, 193));
+    CHECK(read_refused(CAPTIONS_WRONG_SPAN, sealing, 8, checking, 8, sheet,
+                       SHEET, 1, 0));
+    CHECK(read_refused(CAPTIONS_UNFIT_SHEET, sealing, 8, checking, 8, sheet,
+                       SHEET - 1, 1, 192));
+    CHECK(read_refused(CAPTIONS_UNFIT_SHEET, sealing, 8, checking, 8, sheet, 0,
+                       1, 192));
+    CHECK(read_refused(CAPTIONS_OTHER_KEY_CLASS, sealing, 16, checking, 16,
+                       sheet, SHEET, 1, 192));
+    CHECK(read_refused(CAPTIONS_NO_SUCH_SLOT, sealing, 8, checking, 8, sheet,
+                       SHEET, SLOTS, 192));
+    CHECK(read_refused(CAPTIONS_BLANK, sealing, 8, checking, 8, sheet, SHEET,
+                       0, 192));
+    CHECK(read_refused(CAPTIONS_ALTERED, checking, 8, sealing, 8, sheet, SHEET,
+                       1, 192));
+    sheet[field] ^= 1;
+    CHECK(read_refused(CAPTIONS_ALTERED, sealing, 8, checking, 8, sheet, SHEET,
+                       1, 192));
+    sheet[field] ^= 1;
+    CHECK(is(read_as(sheet, 8, 1, window), 0, 5));
+    CHECK(memcmp(window, "Clock", 5) == 0);
+}
+
+/* The listing, in an output of exactly its size, a larger one, one too small. */
+static void listed(const uint8_t *sheet, size_t sheet_len, const char *text)
+{
+    uint8_t out[CAPTIONS_LISTING + 1];
+    size_t length = strlen(text);
+    memset(out, UNTOUCHED, sizeof out);
+    CHECK(captions_list(sheet, sheet_len, out, length - 1) == 0);
+    CHECK(captions_list(sheet, sheet_len, out, 0) == 0);
+    CHECK(all(out, sizeof out, UNTOUCHED));
+    CHECK(captions_list(sheet, sheet_len, out, length) == length);
+    CHECK(memcmp(out, text, length) == 0);
+    CHECK(all(out + length, sizeof out - length, UNTOUCHED));
+    memset(out, UNTOUCHED, sizeof out);
+    CHECK(captions_list(sheet, sheet_len, out, CAPTIONS_LISTING) == length);
+    CHECK(memcmp(out, text, length) == 0);
+    CHECK(all(out + length, sizeof out - length, UNTOUCHED));
+}
+
+static void listing(void)
+{
+    static uint8_t largest[CAPTIONS_SHEET(CAPTIONS_SLOTS) + 1];
+    static uint8_t text[CAPTIONS_LISTING];
+    uint8_t sheet[SHEET], two[CAPTIONS_SHEET(2)] = {0, 2, 4, 1};
+    size_t slot;
+    listed(two, sizeof two, "slots 2 key 64 last 0\n0 blank\n1 blank\n");
+    make_sheet(sheet);
+    listed(sheet, SHEET,
+           "slots 3 key 64 last 1\n0 blank\n1 written 1 5\n2 blank\n");
+    listed(sheet, SHEET - 1, "unfit\n");
+    listed(sheet, 0, "unfit\n");
+
+    /* Every number of the longest listing has all its digits. */
+    CHECK(accepted(captions_blank(largest, CAPTIONS_SHEET(256), 256, 8)));
+    memset(largest + 4, 0xff, 4);
+    for (slot = 0; slot < CAPTIONS_SLOTS; slot++) {
+        uint8_t *mark = largest + CAPTIONS_HEADER + CAPTIONS_MARK * slot;
+        memset(mark, 0xff, 4);
+        mark[5] = CAPTIONS_FIELD;
+    }
+    CHECK(captions_list(largest, CAPTIONS_SHEET(256), text,
+                        CAPTIONS_LISTING - 1) == 0);
+    CHECK(captions_list(largest, CAPTIONS_SHEET(256), text,
+                        CAPTIONS_LISTING) == CAPTIONS_LISTING);
+    CHECK(memcmp(text, "slots 256 key 128 last 4294967295\n", 34) == 0);
+    CHECK(memcmp(text + CAPTIONS_LISTING - 27, "255 written 4294967295 192\n",
+                 27) == 0);
+    CHECK(captions_list(largest, sizeof largest, text, CAPTIONS_LISTING) == 6);
+    CHECK(memcmp(text, "unfit\n", 6) == 0);
+}
+
+static void words(void)
+{
+    static const char *const word[] = CAPTIONS_WORDS;
+    CHECK(sizeof word / sizeof word[0] == CAPTIONS_ALTERED + 1);
+    CHECK(strcmp(word[CAPTIONS_WRONG_KEY], "wrong key") == 0);
+    CHECK(strcmp(word[CAPTIONS_UNFIT_SHEET], "unfit sheet") == 0);
+    CHECK(strcmp(word[CAPTIONS_WORN], "worn") == 0);
+    CHECK(strcmp(word[CAPTIONS_ALTERED], "altered") == 0);
+    CHECK(sizeof(captions_answer) == 4);
+    CHECK(offsetof(captions_answer, length) == 2);
+    CHECK(CAPTIONS_SHEET(1) == 216 && CAPTIONS_SHEET(256) == 53256);
+}
+
+int main(void)
+{
+    blocks_by_every_path();
+    block_refusals(captions_encrypt_block);
+    block_refusals(captions_decrypt_block);
+    checks_by_cmac();
+    blanking();
+    writing_and_reading(8);
+    writing_and_reading(12);
+    writing_and_reading(16);
+    write_refusals();
+    clear_refusals();
+    read_refusals();
+    listing();
+    words();
+    if (failures != 0) {
+        printf("%lu of %lu checks don't hold\n", failures, checks);
+        return 1;
+    }
+    printf("%lu checks\n", checks);
+    return 0;
+}

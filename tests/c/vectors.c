@@ -1,0 +1,155 @@
+/* Prints what `reference vectors blocks`, `cmac` or `sheet` prints, each line
+ * made by the library's own calls, so that the two texts can be compared. */
+#include "captions.h"
+
+#include <stdio.h>
+#include <string.h>
+
+#define SHEET CAPTIONS_SHEET(3)
+
+/* Byte i is (step * i + start) modulo 256. */
+static void ramp(uint8_t *bytes, size_t length, size_t step, size_t start)
+{
+    size_t i;
+    for (i = 0; i < length; i++)
+        bytes[i] = (uint8_t)((step * i + start) % 256);
+}
+
+static void make_key(uint8_t *key, size_t words, size_t number)
+{
+    ramp(key, 2 * words, 29, 71 * number + 13);
+}
+
+static void make_text(uint8_t *text, size_t length, size_t number)
+{
+    ramp(text, length, 53, 31 * number + 7);
+}
+
+static void print_hex(const uint8_t *bytes, size_t length, const char *after)
+{
+    size_t i;
+    for (i = 0; i < length; i++)
+        printf("%02x", bytes[i]);
+    fputs(after, stdout);
+}
+
+static void blocks(void)
+{
+    size_t words, number;
+    for (words = 4; words <= 8; words += 2)
+        for (number = 0; number < 16; number++) {
+            uint8_t key[16], block[8], encrypted[8], decrypted[8];
+            /* The path is another in each line: it makes no difference. */
+            uint16_t path = (uint16_t)(number * 0x1111);
+            make_key(key, words, number);
+            make_text(block, 8, number);
+            captions_encrypt_block(key, 2 * words, block, 8, path, encrypted,
+                                   8);
+            captions_decrypt_block(key, 2 * words, block, 8, path, decrypted,
+                                   8);
+            print_hex(key, 2 * words, " ");
+            print_hex(block, 8, " ");
+            print_hex(encrypted, 8, " ");
+            print_hex(decrypted, 8, "\n");
+        }
+}
+
+static void cmacs(void)
+{
+    static const size_t lengths[] = {0, 1, 7, 8, 9, 15, 16, 17, 24, 200};
+    size_t words, i;
+    for (words = 4; words <= 8; words += 2)
+        for (i = 0; i < sizeof lengths / sizeof lengths[0]; i++) {
+            uint8_t key[16], message[200], out[8];
+            size_t length = lengths[i];
+            make_key(key, words, length);
+            make_text(message, length, length);
+            captions_cmac(key, 2 * words, message, length, out, 8);
+            printf("%lu %lu ", (unsigned long)words, (unsigned long)length);
+            print_hex(out, 8, "\n");
+        }
+}
+
+/* ---- The list of calls on a sheet ---- */
+
+struct keys {
+    size_t length;
+    uint8_t sealing[16], checking[16];
+};
+
+static void print_call(const char *call, captions_answer answer,
+                       const struct keys *keys, const uint8_t *sheet)
+{
+    uint8_t mac[8];
+    captions_cmac(keys->checking, keys->length, sheet, SHEET, mac, 8);
+    printf("%s %d %d ", call, answer.number, answer.length);
+    print_hex(mac, 8, "\n");
+}
+
+static void print_write(const struct keys *keys, uint8_t *sheet, size_t slot,
+                        const void *caption, size_t length)
+{
+    captions_answer answer = captions_write(
+        keys->sealing, keys->length, keys->checking, keys->length, sheet,
+        SHEET, slot, (const uint8_t *)caption, length);
+    print_call("write", answer, keys, sheet);
+}
+
+static void print_reads_and_listing(const struct keys *keys,
+                                    const uint8_t *sheet)
+{
+    uint8_t window[CAPTIONS_FIELD], listing[CAPTIONS_LISTING];
+    size_t slot;
+    for (slot = 0; slot <= 3; slot++) {
+        captions_answer answer;
+        memset(window, 0xff, sizeof window);
+        answer = captions_read(keys->sealing, keys->length, keys->checking,
+                               keys->length, sheet, SHEET, slot, window,
+                               sizeof window);
+        printf("read %lu %d %d ", (unsigned long)slot, answer.number,
+               answer.length);
+        print_hex(window, sizeof window, "\n");
+    }
+    fwrite(listing, 1, captions_list(sheet, SHEET, listing, sizeof listing),
+           stdout);
+}
+
+static void sheet_of_class(size_t words)
+{
+    uint8_t sheet[SHEET], seventeen[17], longest[193];
+    struct keys keys;
+    keys.length = 2 * words;
+    make_key(keys.sealing, words, words);
+    make_key(keys.checking, words, words + 1);
+    ramp(seventeen, sizeof seventeen, 53, 7);
+    ramp(longest, sizeof longest, 31, 5);
+
+    memset(sheet, 0xff, SHEET);
+    print_call("blank", captions_blank(sheet, SHEET, 3, words), &keys, sheet);
+    print_write(&keys, sheet, 0, "", 0);
+    print_write(&keys, sheet, 1, seventeen, 17);
+    print_write(&keys, sheet, 2, longest, 192);
+    print_write(&keys, sheet, 1, "abc", 3);
+    print_call("clear", captions_clear(sheet, SHEET, 0), &keys, sheet);
+    print_write(&keys, sheet, 3, "abc", 3);
+    print_write(&keys, sheet, 2, longest, 193);
+    print_reads_and_listing(&keys, sheet);
+}
+
+int main(int count, char **words)
+{
+    const char *kind = count == 2 ? words[1] : "";
+    if (strcmp(kind, "blocks") == 0) {
+        blocks();
+    } else if (strcmp(kind, "cmac") == 0) {
+        cmacs();
+    } else if (strcmp(kind, "sheet") == 0) {
+        sheet_of_class(4);
+        sheet_of_class(6);
+        sheet_of_class(8);
+    } else {
+        fputs("usage: vectors blocks|cmac|sheet\n", stderr);
+        return 64;
+    }
+    return fflush(stdout) != 0;
+}

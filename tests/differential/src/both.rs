@@ -1,0 +1,253 @@
+//! Every call made on both programs: the library, over lent memory, is held
+//! to the second program's number, length and bytes.
+
+use crate::lent::{Lent, Place};
+use crate::library;
+use crate::sheets::Keys;
+use reference::Answer;
+
+/// The two block calls.
+#[derive(Clone, Copy, Debug)]
+pub enum Direction {
+    Encrypt,
+    Decrypt,
+}
+
+/// Both programs side by side, and counts of what was compared.
+pub struct Both {
+    place: Place,
+    /// What a failure names: the test, its seed, the place in it.
+    pub label: String,
+    pub calls: u64,
+    /// How often each number was answered.
+    pub numbers: [u64; 11],
+    pub listings: u64,
+}
+
+impl Both {
+    pub fn new(place: Place, label: &str) -> Both {
+        Both {
+            place,
+            label: label.to_string(),
+            calls: 0,
+            numbers: [0; 11],
+            listings: 0,
+        }
+    }
+
+    /// A block call by a path number: its answer, and the output after it.
+    pub fn block(
+        &mut self,
+        direction: Direction,
+        key: &[u8],
+        block: &[u8],
+        path: u16,
+        out: &[u8],
+    ) -> (Answer, Vec<u8>) {
+        let call = || {
+            let out = out.len();
+            format!(
+                "{direction:?} key {key:02x?} block {block:02x?} path {path:#06x} output of {out}"
+            )
+        };
+        let mut true_out = out.to_vec();
+        let (lent_key, lent_block, mut lent_out) =
+            (self.lend(key), self.lend(block), self.lend(out));
+        let (k, b, o) = (lent_key.bytes(), lent_block.bytes(), lent_out.bytes_mut());
+        let (ours, theirs) = match direction {
+            Direction::Encrypt => (
+                library::encrypt_block(k, b, path, o),
+                reference::encrypt_block(key, block, &mut true_out),
+            ),
+            Direction::Decrypt => (
+                library::decrypt_block(k, b, path, o),
+                reference::decrypt_block(key, block, &mut true_out),
+            ),
+        };
+        self.hold_answer(call, ours, theirs);
+        self.hold_bytes(call, "key", &lent_key, key);
+        self.hold_bytes(call, "block", &lent_block, block);
+        self.hold_bytes(call, "output", &lent_out, &true_out);
+        (ours, true_out)
+    }
+
+    /// CMAC: its answer, and the output after it.
+    pub fn cmac(&mut self, key: &[u8], message: &[u8], out: &[u8]) -> (Answer, Vec<u8>) {
+        let call = || {
+            let (message, out) = (message.len(), out.len());
+            format!("cmac key {key:02x?} message of {message} output of {out}")
+        };
+        let mut true_out = out.to_vec();
+        let theirs = reference::cmac(key, message, &mut true_out);
+        let (lent_key, lent_message, mut lent_out) =
+            (self.lend(key), self.lend(message), self.lend(out));
+        let ours = library::cmac(lent_key.bytes(), lent_message.bytes(), lent_out.bytes_mut());
+        self.hold_answer(call, ours, theirs);
+        self.hold_bytes(call, "key", &lent_key, key);
+        self.hold_bytes(call, "message", &lent_message, message);
+        self.hold_bytes(call, "output", &lent_out, &true_out);
+        (ours, true_out)
+    }
+
+    /// Blanking; `sheet` becomes what both programs leave.
+    pub fn blank(&mut self, sheet: &mut [u8], slots: usize, key_words: usize) -> Answer {
+        let length = sheet.len();
+        let call = || format!("blank {slots} {key_words} on {length} bytes");
+        let mut lent_sheet = self.lend(sheet);
+        let theirs = reference::blank(sheet, slots, key_words);
+        let ours = library::blank(lent_sheet.bytes_mut(), slots, key_words);
+        self.hold_answer(call, ours, theirs);
+        self.hold_bytes(call, "sheet", &lent_sheet, sheet);
+        ours
+    }
+
+    /// A write; `sheet` becomes what both programs leave.
+    pub fn write(&mut self, keys: &Keys, sheet: &mut [u8], slot: usize, caption: &[u8]) -> Answer {
+        let length = sheet.len();
+        let call = || {
+            let caption = caption.len();
+            format!("write {slot}, caption of {caption}, {keys:02x?}, on {length} bytes")
+        };
+        let mut lent_sheet = self.lend(sheet);
+        let (sealing, checking) = (self.lend(&keys.sealing), self.lend(&keys.checking));
+        let lent_caption = self.lend(caption);
+        let theirs = reference::write(&keys.sealing, &keys.checking, sheet, slot, caption);
+        let ours = library::write(
+            sealing.bytes(),
+            checking.bytes(),
+            lent_sheet.bytes_mut(),
+            slot,
+            lent_caption.bytes(),
+        );
+        self.hold_answer(call, ours, theirs);
+        self.hold_bytes(call, "sheet", &lent_sheet, sheet);
+        self.hold_bytes(call, "sealing key", &sealing, &keys.sealing);
+        self.hold_bytes(call, "checking key", &checking, &keys.checking);
+        self.hold_bytes(call, "caption", &lent_caption, caption);
+        ours
+    }
+
+    /// A clear; `sheet` becomes what both programs leave.
+    pub fn clear(&mut self, sheet: &mut [u8], slot: usize) -> Answer {
+        let length = sheet.len();
+        let call = || format!("clear {slot} on {length} bytes");
+        let mut lent_sheet = self.lend(sheet);
+        let theirs = reference::clear(sheet, slot);
+        let ours = library::clear(lent_sheet.bytes_mut(), slot);
+        self.hold_answer(call, ours, theirs);
+        self.hold_bytes(call, "sheet", &lent_sheet, sheet);
+        ours
+    }
+
+    /// A read into a window of a length: its answer, and the window after it.
+    pub fn read(
+        &mut self,
+        keys: &Keys,
+        sheet: &[u8],
+        slot: usize,
+        window: usize,
+    ) -> (Answer, Vec<u8>) {
+        let call = || {
+            let length = sheet.len();
+            format!("read {slot}, window of {window}, {keys:02x?}, on {length} bytes")
+        };
+        // No zero byte, so that a byte left as it was shows.
+        let mut true_window = vec![0x5a; window];
+        let mut lent_window = self.lend(&true_window);
+        let (sealing, checking) = (self.lend(&keys.sealing), self.lend(&keys.checking));
+        let lent_sheet = self.lend(sheet);
+        let theirs = reference::read(&keys.sealing, &keys.checking, sheet, slot, &mut true_window);
+        let ours = library::read(
+            sealing.bytes(),
+            checking.bytes(),
+            lent_sheet.bytes(),
+            slot,
+            lent_window.bytes_mut(),
+        );
+        self.hold_answer(call, ours, theirs);
+        self.hold_bytes(call, "window", &lent_window, &true_window);
+        self.hold_bytes(call, "sealing key", &sealing, &keys.sealing);
+        self.hold_bytes(call, "checking key", &checking, &keys.checking);
+        self.hold_bytes(call, "sheet", &lent_sheet, sheet);
+        (ours, true_window)
+    }
+
+    /// The listing into an output of a length: whole where there is room for
+    /// it, with the bytes behind it as they were; else none of it, and 0.
+    pub fn list_into(&mut self, sheet: &[u8], listing: &[u8], out: usize) {
+        let call = || {
+            let length = sheet.len();
+            format!("list {length} bytes into {out}")
+        };
+        let mut true_out = vec![0x5a; out];
+        let lent_sheet = self.lend(sheet);
+        let mut lent_out = self.lend(&true_out);
+        let written = library::list(lent_sheet.bytes(), lent_out.bytes_mut());
+        let room = listing.len() <= out;
+        if room {
+            true_out[..listing.len()].copy_from_slice(listing);
+        }
+        let true_written = if room { listing.len() } else { 0 };
+        self.calls += 1;
+        self.listings += 1;
+        if written != true_written {
+            let label = &self.label;
+            panic!(
+                "{label}: {}: {written} bytes written, not {true_written}",
+                call()
+            );
+        }
+        self.hold_bytes(call, "output", &lent_out, &true_out);
+        self.hold_bytes(call, "sheet", &lent_sheet, sheet);
+    }
+
+    /// The listing into outputs exactly large enough, one byte short, larger
+    /// and of length 0.
+    pub fn list(&mut self, sheet: &[u8]) {
+        let listing = reference::listing(sheet);
+        let exact = listing.len();
+        for out in [exact, exact - 1, exact + 1, exact + 300, 0] {
+            self.list_into(sheet, &listing, out);
+        }
+    }
+
+    fn lend(&self, bytes: &[u8]) -> Lent {
+        Lent::new(self.place, bytes)
+    }
+
+    fn hold_answer(&mut self, call: impl Fn() -> String, ours: Answer, theirs: Answer) {
+        if ours != theirs {
+            let label = &self.label;
+            panic!("{label}: {}: {ours:?}, second program {theirs:?}", call());
+        }
+        self.calls += 1;
+        self.numbers[usize::from(theirs.number)] += 1;
+    }
+
+    fn hold_bytes(&self, call: impl Fn() -> String, what: &str, lent: &Lent, expected: &[u8]) {
+        let label = &self.label;
+        if let Some(i) = (0..expected.len()).find(|i| lent.bytes()[*i] != expected[*i]) {
+            let (ours, theirs) = (lent.bytes()[i], expected[i]);
+            panic!(
+                "{label}: {}: {what} byte {i} is {ours:#04x}, should be {theirs:#04x}",
+                call()
+            );
+        }
+        if !lent.guards_stand() {
+            panic!("{label}: {}: a byte outside the {what} was changed", call());
+        }
+    }
+
+    /// "12 of 0, 3 of 1": how often each number was answered.
+    pub fn numbers_met(&self) -> String {
+        let met = self
+            .numbers
+            .iter()
+            .enumerate()
+            .filter(|(_, times)| **times > 0);
+        let parts: Vec<String> = met
+            .map(|(number, times)| format!("{times} of {number}"))
+            .collect();
+        parts.join(", ")
+    }
+}

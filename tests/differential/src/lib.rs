@@ -1,0 +1,21 @@
+//! What the tests share: the library's calls, memory to lend, a seeded
+//! generator, sheets, and every call made on both programs and compared.
+
+pub mod both;
+/// DES-EDE3, another 64-bit block cipher, from the second program's tests.
+#[path = "../../../reference/tests/suite/des.rs"]
+pub mod des;
+pub mod lent;
+pub mod library;
+pub mod openssl;
+pub mod random;
+pub mod sheets;
+
+use std::io::Write;
+
+/// Prints a line also where the test harness keeps back what a passing test
+/// prints, so that a run's counts stand in its output.
+pub fn report(line: &str) {
+    let mut out = std::io::stdout().lock();
+    writeln!(out, "{line}").expect("standard output takes the report");
+}

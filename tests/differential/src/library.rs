@@ -1,0 +1,194 @@
+//! The calls of the static library, over slices.
+
+use reference::Answer;
+
+mod c {
+    #[repr(C)]
+    pub struct Answer {
+        pub number: u8,
+        pub length: u16,
+    }
+
+    extern "C" {
+        pub fn captions_encrypt_block(
+            key: *const u8,
+            key_len: usize,
+            block: *const u8,
+            block_len: usize,
+            path: u16,
+            out: *mut u8,
+            out_len: usize,
+        ) -> Answer;
+        pub fn captions_decrypt_block(
+            key: *const u8,
+            key_len: usize,
+            block: *const u8,
+            block_len: usize,
+            path: u16,
+            out: *mut u8,
+            out_len: usize,
+        ) -> Answer;
+        pub fn captions_cmac(
+            key: *const u8,
+            key_len: usize,
+            message: *const u8,
+            message_len: usize,
+            out: *mut u8,
+            out_len: usize,
+        ) -> Answer;
+        pub fn captions_blank(
+            sheet: *mut u8,
+            sheet_len: usize,
+            slots: usize,
+            key_words: usize,
+        ) -> Answer;
+        pub fn captions_write(
+            sealing_key: *const u8,
+            sealing_len: usize,
+            checking_key: *const u8,
+            checking_len: usize,
+            sheet: *mut u8,
+            sheet_len: usize,
+            slot: usize,
+            caption: *const u8,
+            caption_len: usize,
+        ) -> Answer;
+        pub fn captions_clear(sheet: *mut u8, sheet_len: usize, slot: usize) -> Answer;
+        pub fn captions_read(
+            sealing_key: *const u8,
+            sealing_len: usize,
+            checking_key: *const u8,
+            checking_len: usize,
+            sheet: *const u8,
+            sheet_len: usize,
+            slot: usize,
+            window: *mut u8,
+            window_len: usize,
+        ) -> Answer;
+        pub fn captions_list(
+            sheet: *const u8,
+            sheet_len: usize,
+            out: *mut u8,
+            out_len: usize,
+        ) -> usize;
+    }
+}
+
+/// The second program's type of answer, so that the two can be compared.
+#[inline]
+fn answer(answer: c::Answer) -> Answer {
+    Answer {
+        number: answer.number,
+        length: answer.length,
+    }
+}
+
+// In each call a slice's pointer and length go together, which is all that
+// the library asks; an exclusive slice overlaps no other.
+
+#[inline]
+pub fn encrypt_block(key: &[u8], block: &[u8], path: u16, out: &mut [u8]) -> Answer {
+    answer(unsafe {
+        c::captions_encrypt_block(
+            key.as_ptr(),
+            key.len(),
+            block.as_ptr(),
+            block.len(),
+            path,
+            out.as_mut_ptr(),
+            out.len(),
+        )
+    })
+}
+
+#[inline]
+pub fn decrypt_block(key: &[u8], block: &[u8], path: u16, out: &mut [u8]) -> Answer {
+    answer(unsafe {
+        c::captions_decrypt_block(
+            key.as_ptr(),
+            key.len(),
+            block.as_ptr(),
+            block.len(),
+            path,
+            out.as_mut_ptr(),
+            out.len(),
+        )
+    })
+}
+
+#[inline]
+pub fn cmac(key: &[u8], message: &[u8], out: &mut [u8]) -> Answer {
+    answer(unsafe {
+        c::captions_cmac(
+            key.as_ptr(),
+            key.len(),
+            message.as_ptr(),
+            message.len(),
+            out.as_mut_ptr(),
+            out.len(),
+        )
+    })
+}
+
+#[inline]
+pub fn blank(sheet: &mut [u8], slots: usize, key_words: usize) -> Answer {
+    answer(unsafe { c::captions_blank(sheet.as_mut_ptr(), sheet.len(), slots, key_words) })
+}
+
+#[inline]
+pub fn write(
+    sealing_key: &[u8],
+    checking_key: &[u8],
+    sheet: &mut [u8],
+    slot: usize,
+    caption: &[u8],
+) -> Answer {
+    answer(unsafe {
+        c::captions_write(
+            sealing_key.as_ptr(),
+            sealing_key.len(),
+            checking_key.as_ptr(),
+            checking_key.len(),
+            sheet.as_mut_ptr(),
+            sheet.len(),
+            slot,
+            caption.as_ptr(),
+            caption.len(),
+        )
+    })
+}
+
+#[inline]
+pub fn clear(sheet: &mut [u8], slot: usize) -> Answer {
+    answer(unsafe { c::captions_clear(sheet.as_mut_ptr(), sheet.len(), slot) })
+}
+
+#[inline]
+pub fn read(
+    sealing_key: &[u8],
+    checking_key: &[u8],
+    sheet: &[u8],
+    slot: usize,
+    window: &mut [u8],
+) -> Answer {
+    answer(unsafe {
+        c::captions_read(
+            sealing_key.as_ptr(),
+            sealing_key.len(),
+            checking_key.as_ptr(),
+            checking_key.len(),
+            sheet.as_ptr(),
+            sheet.len(),
+            slot,
+            window.as_mut_ptr(),
+            window.len(),
+        )
+    })
+}
+
+/// The bytes of the listing written; 0, and `out` as it was, where it is too
+/// small.
+#[inline]
+pub fn list(sheet: &[u8], out: &mut [u8]) -> usize {
+    unsafe { c::captions_list(sheet.as_ptr(), sheet.len(), out.as_mut_ptr(), out.len()) }
+}

@@ -1,0 +1,173 @@
+//! Keys and sheets to call with: fit ones, and ones with a rule broken.
+
+use crate::random::Random;
+use std::ops::Range;
+
+/// The values of t, the words of a key.
+pub const CLASSES: [usize; 3] = [4, 6, 8];
+
+/// A window's length, and the longest caption's.
+pub const FIELD: usize = 192;
+
+/// A sealing and a checking key.
+#[derive(Clone, Debug)]
+pub struct Keys {
+    pub sealing: Vec<u8>,
+    pub checking: Vec<u8>,
+}
+
+impl Keys {
+    /// Two unlike keys of t words.
+    pub fn unlike(random: &mut Random, t: usize) -> Keys {
+        let sealing = random.bytes(2 * t);
+        let mut checking = random.bytes(2 * t);
+        if checking == sealing {
+            checking[0] ^= 1;
+        }
+        Keys { sealing, checking }
+    }
+
+    /// Random keys of any lengths.
+    pub fn of_lengths(random: &mut Random, sealing: usize, checking: usize) -> Keys {
+        Keys {
+            sealing: random.bytes(sealing),
+            checking: random.bytes(checking),
+        }
+    }
+
+    pub fn twins(random: &mut Random, length: usize) -> Keys {
+        let key = random.bytes(length);
+        Keys {
+            sealing: key.clone(),
+            checking: key,
+        }
+    }
+
+    pub fn swapped(&self) -> Keys {
+        Keys {
+            sealing: self.checking.clone(),
+            checking: self.sealing.clone(),
+        }
+    }
+}
+
+/// The length of a sheet of n slots.
+pub fn sheet_length(n: usize) -> usize {
+    8 + 208 * n
+}
+
+/// Where the mark of a slot stands.
+pub fn mark_place(slot: usize) -> Range<usize> {
+    let start = 8 + 16 * slot;
+    start..start + 16
+}
+
+/// Where the sealed field of a slot stands.
+pub fn field_place(n: usize, slot: usize) -> Range<usize> {
+    let start = 8 + 16 * n + 192 * slot;
+    start..start + 192
+}
+
+/// A blank sheet, laid out here and by no program that is tested.
+pub fn blank_sheet(n: usize, t: usize) -> Vec<u8> {
+    let mut sheet = vec![0; sheet_length(n)];
+    sheet[0..2].copy_from_slice(&(n as u16).to_be_bytes());
+    sheet[2] = t as u8;
+    sheet[3] = 1;
+    sheet
+}
+
+/// The last write number, w.
+pub fn last_number(sheet: &[u8]) -> u32 {
+    u32::from_be_bytes([sheet[4], sheet[5], sheet[6], sheet[7]])
+}
+
+pub fn set_last_number(sheet: &mut [u8], w: u32) {
+    sheet[4..8].copy_from_slice(&w.to_be_bytes());
+}
+
+/// A number from 1 to `most`, of every count of digits.
+fn number_up_to(random: &mut Random, most: u32) -> u32 {
+    let digits = random.below(10) as u32 + 1;
+    let number = random.number() % 10u64.pow(digits).min(u64::from(most)) + 1;
+    number.min(u64::from(most)) as u32
+}
+
+/// A caption's length: the edges and any between.
+pub fn caption_length(random: &mut Random) -> usize {
+    match random.below(4) {
+        0 => random.pick(&[0, 1, 7, 8, 9, 191, 192]),
+        _ => random.below(FIELD + 1),
+    }
+}
+
+/// A sheet that meets the layout, each slot blank or written; fields and
+/// checks are random bytes, which the layout doesn't look at.
+pub fn fit_sheet(random: &mut Random, n: usize, t: usize) -> Vec<u8> {
+    let mut sheet = blank_sheet(n, t);
+    let w = match random.below(8) {
+        0 => 0,
+        1 => u32::MAX,
+        _ => number_up_to(random, u32::MAX),
+    };
+    set_last_number(&mut sheet, w);
+    let blank_once_in = random.pick(&[1, 2, 10]);
+    for slot in 0..n {
+        if w == 0 || random.once_in(blank_once_in) {
+            continue;
+        }
+        let number = number_up_to(random, w);
+        let length = caption_length(random) as u16;
+        let mark = &mut sheet[mark_place(slot)];
+        mark[0..4].copy_from_slice(&number.to_be_bytes());
+        mark[4..6].copy_from_slice(&length.to_be_bytes());
+        // A check and a field of zeros are allowed in a written slot.
+        if !random.once_in(5) {
+            mark[8..16].copy_from_slice(&random.block());
+            let field = random.bytes(FIELD);
+            sheet[field_place(n, slot)].copy_from_slice(&field);
+        }
+    }
+    sheet
+}
+
+/// The ways to break a rule of the layout.
+pub const FAULTS: usize = 13;
+
+/// A fit sheet with one thing altered: most often unfit then, by the rule of
+/// that number, and sometimes still fit.
+pub fn near_sheet(random: &mut Random, n: usize, t: usize, fault: usize) -> Vec<u8> {
+    let mut sheet = fit_sheet(random, n, t);
+    // The first and the last slot as often as all others.
+    let between = random.below(n);
+    let slot = random.pick(&[0, n - 1, between]);
+    let mark = mark_place(slot).start;
+    let field = field_place(n, slot).start;
+    let some_byte = random.below(255) as u8 + 1;
+    match fault {
+        0 => set_slot_count(&mut sheet, n - 1),
+        1 => set_slot_count(&mut sheet, n + 1),
+        2 => set_slot_count(&mut sheet, random.number() as usize % 65536),
+        3 => sheet[2] = random.pick(&[0, 1, 2, 3, 5, 7, 9, 10, 12, 16, 24, 0x84, 255]),
+        4 => sheet[3] = random.pick(&[0, 2, 3, 0x81, 255]),
+        5 => set_last_number(&mut sheet, random.pick(&[0, 1, 2, 0xff, 0x100, 0x10000])),
+        6 => sheet[mark + 4..mark + 6]
+            .copy_from_slice(&random.pick(&[193u16, 256, 448, 0x8000]).to_be_bytes()),
+        7 => sheet[mark + 6] ^= some_byte,
+        8 => sheet[mark + 7] ^= some_byte,
+        9 => sheet[mark..mark + 4].fill(0),
+        10 => {
+            sheet[mark..mark + 16].fill(0);
+            sheet[field + random.below(FIELD)] ^= some_byte;
+        }
+        11 => {
+            sheet.pop();
+        }
+        _ => sheet.push(random.pick(&[0, some_byte])),
+    }
+    sheet
+}
+
+fn set_slot_count(sheet: &mut [u8], n: usize) {
+    sheet[0..2].copy_from_slice(&(n as u16).to_be_bytes());
+}

@@ -1,0 +1,155 @@
+//! CBC. The library has no call for it alone: the second program's is held to
+//! the library's block calls and to openssl, and a sheet's sealed field and
+//! check are put together again from the library's block and CMAC calls.
+
+use differential::random::{seed, Random};
+use differential::sheets::{blank_sheet, field_place, mark_place, Keys, CLASSES, FIELD};
+use differential::{des, library, openssl, report};
+use reference::cipher::{decrypt, encrypt, Block, Register};
+use reference::modes::{cbc_decrypt, cbc_encrypt};
+
+fn xor(a: Block, b: Block) -> Block {
+    std::array::from_fn(|i| a[i] ^ b[i])
+}
+
+fn blocks(random: &mut Random, count: usize) -> Vec<Block> {
+    (0..count).map(|_| random.block()).collect()
+}
+
+/// The library's encryption of one block, by a random path number.
+fn encrypted(random: &mut Random, key: &[u8], block: Block) -> Block {
+    let mut out = [0; 8];
+    let answer = library::encrypt_block(key, &block, random.path(), &mut out);
+    assert_eq!(answer.number, 0);
+    out
+}
+
+fn decrypted(random: &mut Random, key: &[u8], block: Block) -> Block {
+    let mut out = [0; 8];
+    let answer = library::decrypt_block(key, &block, random.path(), &mut out);
+    assert_eq!(answer.number, 0);
+    out
+}
+
+#[test]
+fn the_second_program_s_cbc_of_0_to_30_blocks_is_the_library_s_blocks_chained() {
+    let mut random = Random::of_part(300);
+    let mut compared = 0;
+    for t in CLASSES {
+        for count in 0..=30 {
+            for _ in 0..10 {
+                let key = random.bytes(2 * t);
+                let register = Register::of_key(&key).expect("a key of t words");
+                let start = random.block();
+                let text = blocks(&mut random, count);
+                let sealed = cbc_encrypt(&|block| encrypt(register, block), start, &text);
+                let opened = cbc_decrypt(&|block| decrypt(register, block), start, &text);
+                assert_eq!((sealed.len(), opened.len()), (count, count));
+                let (mut before_sealed, mut before_opened) = (start, start);
+                for j in 0..count {
+                    let chained = xor(text[j], before_sealed);
+                    assert_eq!(sealed[j], encrypted(&mut random, &key, chained));
+                    let unchained = decrypted(&mut random, &key, text[j]);
+                    assert_eq!(opened[j], xor(unchained, before_opened));
+                    (before_sealed, before_opened) = (sealed[j], text[j]);
+                }
+                compared += 2 * count;
+            }
+        }
+    }
+    report(&format!(
+        "cbc: the second program's of 0 to 30 blocks both ways, {compared} blocks, seed {:#x}",
+        seed()
+    ));
+}
+
+#[test]
+fn the_second_program_s_cbc_with_des_ede3_is_openssl_s() {
+    let Some(version) = openssl::version() else {
+        report("cbc: skipped: no openssl with DES-EDE3 here");
+        return;
+    };
+    let mut random = Random::of_part(301);
+    let mut compared = 0;
+    for count in 0..=30 {
+        let key = [random.number(), random.number(), random.number()];
+        let start = random.block();
+        let text = blocks(&mut random, count);
+        let sealed = cbc_encrypt(&|block| des::ede_encrypt(key, block), start, &text);
+        let opened = cbc_decrypt(&|block| des::ede_decrypt(key, block), start, &text);
+        for (ours, encrypt) in [(sealed, true), (opened, false)] {
+            let theirs = openssl::cbc(key, start, &text.concat(), encrypt);
+            assert_eq!(Some(ours.concat()), theirs, "{count} blocks");
+            compared += 1;
+        }
+    }
+    report(&format!(
+        "cbc: the second program's with DES-EDE3 equals that of {version}, {compared} texts of 0 to 30 blocks"
+    ));
+}
+
+/// The block function by itself, so that the comparisons above stand on it.
+#[test]
+fn des_ede3_is_openssl_s() {
+    const BLOCKS: usize = 500;
+    if openssl::version().is_none() {
+        report("cbc: skipped: no openssl with DES-EDE3 here");
+        return;
+    }
+    let mut random = Random::of_part(302);
+    for _ in 0..4 {
+        let key = [random.number(), random.number(), random.number()];
+        let text = blocks(&mut random, BLOCKS);
+        let sealed: Vec<Block> = text.iter().map(|b| des::ede_encrypt(key, *b)).collect();
+        assert_eq!(Some(sealed.concat()), openssl::blocks(key, &text.concat()));
+        let opened: Vec<Block> = sealed.iter().map(|b| des::ede_decrypt(key, *b)).collect();
+        assert_eq!(opened, text);
+    }
+    report(&format!(
+        "cbc: DES-EDE3 equals openssl's on {} blocks",
+        4 * BLOCKS
+    ));
+}
+
+/// The 208 bytes that a write stores, from document 01's words and the
+/// library's own block and CMAC calls.
+#[test]
+fn a_write_stores_the_field_and_the_check_of_the_papers() {
+    const WRITES: usize = 2_000;
+    let mut random = Random::of_part(303);
+    for t in CLASSES {
+        let mut sheet = blank_sheet(5, t);
+        let keys = Keys::unlike(&mut random, t);
+        for number in 1..=WRITES as u32 {
+            let slot = random.below(5);
+            let length = random.below(FIELD + 1);
+            let caption = random.bytes(length);
+            let answer = library::write(&keys.sealing, &keys.checking, &mut sheet, slot, &caption);
+            assert_eq!(answer.number, 0);
+
+            let [a, b, c, d] = number.to_be_bytes();
+            let [e, f] = (slot as u16).to_be_bytes();
+            let mut plain = caption.clone();
+            plain.resize(FIELD, 0);
+            let mut before = encrypted(&mut random, &keys.sealing, [a, b, c, d, e, f, 0, 0]);
+            let mut field = Vec::new();
+            for block in plain.as_chunks::<8>().0 {
+                before = encrypted(&mut random, &keys.sealing, xor(*block, before));
+                field.extend(before);
+            }
+            let [g, h] = (length as u16).to_be_bytes();
+            let message = [&[a, b, c, d, e, f, g, h], &field[..]].concat();
+            let mut check = [0; 8];
+            library::cmac(&keys.checking, &message, &mut check);
+            let mark = [&[a, b, c, d, g, h, 0, 0], &check[..]].concat();
+
+            assert_eq!(sheet[4..8], [a, b, c, d]);
+            assert_eq!(sheet[mark_place(slot)], mark);
+            assert_eq!(sheet[field_place(5, slot)], field);
+        }
+    }
+    report(&format!(
+        "cbc: {} writes put together again from block and CMAC calls",
+        3 * WRITES
+    ));
+}

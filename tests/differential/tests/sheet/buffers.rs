@@ -1,0 +1,149 @@
+//! Buffers of every length, filled with seeded bytes and with near-sheets.
+
+use crate::both;
+use differential::both::Both;
+use differential::random::{seed, Random};
+use differential::report;
+use differential::sheets::{
+    blank_sheet, field_place, fit_sheet, mark_place, near_sheet, Keys, CLASSES, FAULTS, FIELD,
+};
+
+/// Each call on a buffer.
+pub fn each_call(both: &mut Both, random: &mut Random, sheet: &[u8]) {
+    let n = sheet.len().saturating_sub(8) / 208;
+    let t = random.pick(&CLASSES);
+    let class = match sheet.get(2) {
+        Some(4) => 4,
+        Some(6) => 6,
+        Some(8) => 8,
+        _ => t,
+    };
+    let keys = Keys::unlike(random, class);
+    both.list(sheet);
+    for slot in [0, n.saturating_sub(1), n] {
+        let length = random.below(FIELD + 2);
+        let caption = random.bytes(length);
+        both.read(&keys, sheet, slot, FIELD);
+        both.write(&keys, &mut sheet.to_vec(), slot, &caption);
+        both.clear(&mut sheet.to_vec(), slot);
+    }
+    both.blank(&mut sheet.to_vec(), n, t);
+    both.blank(&mut sheet.to_vec(), n + 1, t);
+}
+
+/// A buffer of a length with the header of a sheet of about that length, so
+/// that more than the first test is reached.
+fn with_header(random: &mut Random, length: usize) -> Vec<u8> {
+    let mut buffer = random.bytes(length);
+    let n = (length.saturating_sub(8) / 208 + random.below(2)) as u16;
+    let [high, low] = n.to_be_bytes();
+    let header = [high, low, random.pick(&[4, 6, 8]), 1];
+    for (place, byte) in buffer.iter_mut().zip(header) {
+        *place = byte;
+    }
+    buffer
+}
+
+/// A sheet of the nearest count of slots, cut or made longer to a length.
+fn resized(random: &mut Random, length: usize, filling: u8) -> Vec<u8> {
+    let nearest = (length.saturating_sub(8) + 104) / 208;
+    let t = random.pick(&CLASSES);
+    let mut sheet = fit_sheet(random, nearest.clamp(1, 256), t);
+    sheet.resize(length, filling);
+    sheet
+}
+
+/// The buffers of a length.
+pub fn buffers(random: &mut Random, length: usize) -> Vec<Vec<u8>> {
+    let mut zero_after_header = with_header(random, length);
+    for byte in zero_after_header.iter_mut().skip(4) {
+        *byte = 0;
+    }
+    vec![
+        vec![0; length],
+        vec![0xff; length],
+        random.bytes(length),
+        with_header(random, length),
+        zero_after_header,
+        resized(random, length, 0),
+        resized(random, length, 1),
+    ]
+}
+
+fn each_length(name: &str, part: u64, lengths: impl Iterator<Item = usize>) {
+    let mut random = Random::of_part(part);
+    let mut both = both(name);
+    let (mut count, mut fit) = (0, 0);
+    for length in lengths {
+        both.label = format!("{name}, length {length}, seed {:#x}", seed());
+        for buffer in buffers(&mut random, length) {
+            each_call(&mut both, &mut random, &buffer);
+            count += 1;
+            fit += usize::from(reference::fit(&buffer));
+        }
+    }
+    let (calls, met) = (both.calls, both.numbers_met());
+    report(&format!(
+        "sheet: {name}: {count} buffers, {fit} of them fit, {calls} calls: {met}"
+    ));
+}
+
+#[test]
+fn every_length_from_0_to_700() {
+    each_length("lengths 0 to 700", 540, 0..=700);
+}
+
+#[test]
+fn lengths_around_the_longest() {
+    let lengths = (53_244..=53_270).chain([53_047, 53_048, 53_049, 53_463, 53_464, 53_465]);
+    each_length("lengths around 53256", 541, lengths);
+}
+
+/// Fit sheets with one rule broken, of several counts of slots.
+#[test]
+fn near_sheets() {
+    let mut random = Random::of_part(542);
+    let mut both = both("near-sheets");
+    let (mut count, mut fit) = (0, 0);
+    for t in CLASSES {
+        for n in [1, 2, 3, 9, 256] {
+            for fault in 0..FAULTS {
+                let repeats = if n == 256 { 2 } else { 12 };
+                for _ in 0..repeats {
+                    let sheet = near_sheet(&mut random, n, t, fault);
+                    each_call(&mut both, &mut random, &sheet);
+                    count += 1;
+                    fit += usize::from(reference::fit(&sheet));
+                }
+            }
+        }
+    }
+    let (calls, met) = (both.calls, both.numbers_met());
+    report(&format!(
+        "sheet: near-sheets: {count} sheets, {fit} of them fit, {calls} calls: {met}"
+    ));
+}
+
+/// A rule of marks or fields broken in each slot of the longest sheet.
+#[test]
+fn a_fault_in_each_slot() {
+    let mut random = Random::of_part(543);
+    let mut both = both("a fault in each slot");
+    let keys = Keys::unlike(&mut random, 4);
+    let sheet = blank_sheet(256, 4);
+    for slot in 0..256 {
+        let (mark, field) = (mark_place(slot), field_place(256, slot));
+        for byte in [mark.start, mark.end - 1, field.start, field.end - 1] {
+            let mut faulty = sheet.clone();
+            faulty[byte] = 1;
+            assert!(!reference::fit(&faulty));
+            both.clear(&mut faulty, slot);
+            both.read(&keys, &faulty, 0, FIELD);
+            both.write(&keys, &mut faulty, 255, b"caption");
+        }
+    }
+    let (calls, met) = (both.calls, both.numbers_met());
+    report(&format!(
+        "sheet: a fault in each of 256 slots, {calls} calls: {met}"
+    ));
+}

@@ -1,0 +1,79 @@
+//! The order of refusals: every combination of faults in one call.
+
+use crate::both;
+use differential::random::Random;
+use differential::report;
+use differential::sheets::{blank_sheet, mark_place, set_last_number, Keys, CLASSES, FIELD};
+
+const SLOTS: usize = 5;
+
+/// The pair that wrote the sheet, then pairs with something wrong.
+fn pairs(random: &mut Random, t: usize, right: &Keys) -> Vec<Keys> {
+    let mut pairs = vec![
+        right.clone(),
+        right.swapped(),
+        Keys::unlike(random, t),
+        Keys::twins(random, 2 * t),
+        Keys::twins(random, 9),
+        Keys::of_lengths(random, 2 * t - 1, 2 * t),
+        Keys::of_lengths(random, 2 * t, 2 * t + 1),
+        Keys::of_lengths(random, 0, 0),
+    ];
+    for other in CLASSES.into_iter().filter(|other| *other != t) {
+        pairs.push(Keys::unlike(random, other));
+        pairs.push(Keys::twins(random, 2 * other));
+        pairs.push(Keys::of_lengths(random, 2 * t, 2 * other));
+    }
+    pairs
+}
+
+/// A sheet with a written slot 0, an altered one 1, an empty caption in 2 and
+/// two blank ones; then the same with faults in the layout.
+fn sheets(random: &mut Random, t: usize, keys: &Keys, w: u32) -> Vec<Vec<u8>> {
+    let mut fit = blank_sheet(SLOTS, t);
+    set_last_number(&mut fit, w - 3);
+    for (slot, length) in [(0, 100), (1, 192), (2, 0)] {
+        let caption = random.bytes(length);
+        let answer = reference::write(&keys.sealing, &keys.checking, &mut fit, slot, &caption);
+        assert_eq!(answer.number, 0);
+    }
+    fit[mark_place(1).start + 9] ^= 0x10;
+    let mut other_edition = fit.clone();
+    other_edition[3] = 2;
+    let mut last_mark_unfit = fit.clone();
+    last_mark_unfit[mark_place(SLOTS - 1).start + 7] = 1;
+    let short = fit[..7].to_vec();
+    let cut = fit[..fit.len() - 1].to_vec();
+    vec![fit, other_edition, last_mark_unfit, short, cut, Vec::new()]
+}
+
+#[test]
+fn every_combination_of_faults() {
+    let mut random = Random::of_part(520);
+    let mut both = both("combinations of faults");
+    for t in CLASSES {
+        for w in [3, u32::MAX] {
+            let right = Keys::unlike(&mut random, t);
+            let pairs = pairs(&mut random, t, &right);
+            for sheet in sheets(&mut random, t, &right, w) {
+                for slot in (0..=SLOTS).chain([usize::MAX]) {
+                    both.clear(&mut sheet.clone(), slot);
+                    for keys in &pairs {
+                        for window in [FIELD, FIELD - 1, FIELD + 1, 0] {
+                            both.read(keys, &sheet, slot, window);
+                        }
+                        for length in [0, FIELD, FIELD + 1] {
+                            let caption = random.bytes(length);
+                            both.write(keys, &mut sheet.clone(), slot, &caption);
+                        }
+                    }
+                }
+            }
+        }
+    }
+    assert!(both.numbers.iter().all(|times| *times > 0));
+    let (calls, met) = (both.calls, both.numbers_met());
+    report(&format!(
+        "sheet: combinations of faults, {calls} calls: {met}"
+    ));
+}

@@ -1,0 +1,80 @@
+//! The calls over memory with an untouchable page right before or right
+//! behind every lent buffer: a load outside, which leaves no trace in guard
+//! bytes, ends the run by a signal.
+
+use crate::buffers::{buffers, each_call};
+use differential::both::{Both, Direction};
+use differential::lent::Place;
+use differential::random::{seed, Random};
+use differential::report;
+use differential::sheets::{caption_length, sheet_length, Keys, CLASSES, FIELD};
+
+fn blocks_and_messages(both: &mut Both, random: &mut Random) {
+    for key in 0..=17 {
+        for block in 0..=9 {
+            let (key, block) = (random.bytes(key), random.bytes(block));
+            for direction in [Direction::Encrypt, Direction::Decrypt] {
+                for out in 7..=9 {
+                    both.block(direction, &key, &block, random.path(), &random.bytes(out));
+                }
+            }
+        }
+        for message in 0..=66 {
+            let (key, message) = (random.bytes(key), random.bytes(message));
+            both.cmac(&key, &message, &[0; 8]);
+        }
+    }
+}
+
+/// Sheets on both sides of a page, and the longest: every slot written, read
+/// and listed, some cleared.
+fn written_sheets(both: &mut Both, random: &mut Random) {
+    for t in CLASSES {
+        for n in [1, 2, 3, 19, 20, 256] {
+            let keys = Keys::unlike(random, t);
+            let mut sheet = random.bytes(sheet_length(n));
+            both.blank(&mut sheet, n, t);
+            for slot in (0..n).take(20).chain([n - 1]) {
+                let length = caption_length(random);
+                let caption = random.bytes(length);
+                both.write(&keys, &mut sheet, slot, &caption);
+            }
+            both.clear(&mut sheet, n / 2);
+            for slot in (0..n).take(20).chain([n - 1, n]) {
+                both.read(&keys, &sheet, slot, FIELD);
+            }
+            both.list(&sheet);
+        }
+    }
+}
+
+fn fenced(place: Place, part: u64) {
+    let mut random = Random::of_part(part);
+    let mut both = Both::new(place, &format!("{place:?}, seed {:#x}", seed()));
+    blocks_and_messages(&mut both, &mut random);
+    written_sheets(&mut both, &mut random);
+    let near_pages = [4_095, 4_096, 4_097, 53_255, 53_256, 53_257];
+    for length in (0..=20)
+        .chain((21..=640).step_by(11))
+        .chain([216, 424])
+        .chain(near_pages)
+    {
+        for buffer in buffers(&mut random, length) {
+            each_call(&mut both, &mut random, &buffer);
+        }
+    }
+    let (calls, met) = (both.calls, both.numbers_met());
+    report(&format!(
+        "sheet: {place:?}: {calls} calls of every kind: {met}"
+    ));
+}
+
+#[test]
+fn nothing_before_a_buffer_is_touched() {
+    fenced(Place::FenceBefore, 550);
+}
+
+#[test]
+fn nothing_behind_a_buffer_is_touched() {
+    fenced(Place::FenceBehind, 551);
+}

@@ -1,0 +1,332 @@
+//! The sheets: fit ones of every shape, unfit ones by every rule, and files that
+//! are no sheets.
+
+use std::collections::BTreeMap;
+
+const HEADER: usize = 8;
+const MARK: usize = 16;
+const FIELD: usize = 192;
+const CLASSES: [usize; 3] = [4, 6, 8];
+
+/// A sheet, the group it is counted in, and what it is.
+pub struct Sheet {
+    pub group: &'static str,
+    pub what: String,
+    pub bytes: Vec<u8>,
+}
+
+/// How many sheets each group has.
+pub fn counts(sheets: &[Sheet]) -> BTreeMap<&'static str, usize> {
+    let mut counts = BTreeMap::new();
+    for sheet in sheets {
+        *counts.entry(sheet.group).or_default() += 1;
+    }
+    counts
+}
+
+/// All sheets. Each group's are fit or unfit as its name says.
+pub fn all() -> Vec<Sheet> {
+    let mut sheets = Sheets {
+        all: Vec::new(),
+        random: Random(424),
+    };
+    sheets.blank();
+    sheets.written();
+    sheets.digits();
+    sheets.header_faults();
+    sheets.length_faults();
+    sheets.mark_faults();
+    sheets.changed_bytes();
+    sheets.no_sheets();
+    for sheet in &sheets.all {
+        let fit = reference::fit(&sheet.bytes);
+        assert!(!sheet.group.starts_with("fit") || fit, "{}", sheet.what);
+        assert!(!sheet.group.starts_with("unfit") || !fit, "{}", sheet.what);
+    }
+    sheets.all
+}
+
+struct Sheets {
+    all: Vec<Sheet>,
+    random: Random,
+}
+
+impl Sheets {
+    fn add(&mut self, group: &'static str, what: String, bytes: Vec<u8>) {
+        self.all.push(Sheet { group, what, bytes });
+    }
+
+    // ---- Fit ----
+
+    fn blank(&mut self) {
+        for slots in [1, 2, 3, 9, 10, 11, 99, 100, 101, 255, 256] {
+            for t in CLASSES {
+                let what = format!("blank, {slots} slots, t = {t}");
+                self.add("fit: blank", what, blank(slots, t));
+            }
+        }
+    }
+
+    /// Sheets as writes and clears leave them.
+    fn written(&mut self) {
+        for round in 0..60 {
+            let t = CLASSES[round % 3];
+            let slots = 1 + self.random.below(20);
+            let keys = [self.random.bytes(2 * t), self.random.bytes(2 * t)];
+            let mut sheet = blank(slots, t);
+            for _ in 0..self.random.below(30) {
+                let slot = self.random.below(slots);
+                if self.random.below(5) == 0 {
+                    reference::clear(&mut sheet, slot);
+                } else {
+                    let length = self.random.below(FIELD + 1);
+                    let caption = self.random.bytes(length);
+                    reference::write(&keys[0], &keys[1], &mut sheet, slot, &caption);
+                }
+            }
+            let what = format!("written and cleared, round {round}, {slots} slots, t = {t}");
+            self.add("fit: written and cleared", what, sheet);
+        }
+    }
+
+    /// Numbers of every count of digits. A listing doesn't test the check.
+    fn digits(&mut self) {
+        let mut numbers = vec![1, u32::MAX];
+        for power in 1..=9 {
+            let ten = 10_u32.pow(power);
+            numbers.extend([ten - 1, ten, ten + 1]);
+        }
+        numbers.extend([255, 256, 65535, 65536, 16777215, 16777216, 1 << 31]);
+        for number in numbers {
+            let mut sheet = self.marked(3, number);
+            set_mark(&mut sheet, 1, number, 192);
+            let what = format!("write number {number}");
+            self.add("fit: numbers of every size", what, sheet);
+        }
+        for length in 0..=192 {
+            let mut sheet = self.marked(2, 7);
+            set_mark(&mut sheet, 1, 7, length);
+            let what = format!("caption length {length}");
+            self.add("fit: every caption length", what, sheet);
+        }
+        for slots in [255, 256] {
+            let sheet = self.marked(slots, u32::MAX);
+            let what = format!("{slots} slots, every one marked");
+            self.add("fit: every slot marked", what, sheet);
+        }
+    }
+
+    /// A sheet whose every slot is marked, by numbers up to w, over any field.
+    fn marked(&mut self, slots: usize, w: u32) -> Vec<u8> {
+        let mut sheet = blank(slots, CLASSES[self.random.below(3)]);
+        sheet[4..8].copy_from_slice(&w.to_be_bytes());
+        for slot in 0..slots {
+            let number = 1 + self.random.next() as u32 % w;
+            let length = self.random.below(FIELD + 1) as u16;
+            set_mark(&mut sheet, slot, number, length);
+            for place in field_places(slots, slot) {
+                sheet[place] = self.random.next() as u8;
+            }
+        }
+        sheet
+    }
+
+    // ---- Unfit, by each rule ----
+
+    fn header_faults(&mut self) {
+        for n in [0, 1, 3, 4, 257, 258, 512, 514, 65535] {
+            let mut sheet = self.marked(2, 9);
+            sheet[0..2].copy_from_slice(&(n as u16).to_be_bytes());
+            self.add("unfit: slot count", format!("2 slots that say {n}"), sheet);
+        }
+        // The length that such a count would ask for, where it isn't 1 to 256.
+        for n in [0_usize, 257, 300] {
+            let mut sheet = vec![0; HEADER + (MARK + FIELD) * n];
+            sheet[0..2].copy_from_slice(&(n as u16).to_be_bytes());
+            sheet[2..4].copy_from_slice(&[4, 1]);
+            self.add("unfit: slot count", format!("{n} slots"), sheet);
+        }
+        for t in (0..=255).filter(|t| ![4, 6, 8].contains(t)) {
+            let mut sheet = self.marked(1, 9);
+            sheet[2] = t;
+            self.add("unfit: key class", format!("t = {t}"), sheet);
+        }
+        for edition in [0, 2, 3, 4, 127, 129, 255] {
+            let mut sheet = self.marked(1, 9);
+            sheet[3] = edition;
+            self.add("unfit: edition", format!("edition {edition}"), sheet);
+        }
+    }
+
+    fn length_faults(&mut self) {
+        for length in 0..HEADER {
+            let sheet = blank(1, 4)[..length].to_vec();
+            self.add("unfit: under 8 bytes", format!("{length} bytes"), sheet);
+        }
+        for slots in [1, 2, 3, 256] {
+            let right = HEADER + (MARK + FIELD) * slots;
+            for length in [
+                8,
+                9,
+                right - 208,
+                right - 1,
+                right + 1,
+                right + 16,
+                right + 208,
+            ] {
+                let mut sheet = self.marked(slots, 9);
+                sheet.resize(length, 0);
+                let what = format!("{slots} slots in {length} bytes");
+                self.add("unfit: length", what, sheet);
+            }
+        }
+    }
+
+    /// Each rule of a mark, in the first slot, one in the middle and the last.
+    fn mark_faults(&mut self) {
+        for slots in [1, 3, 256] {
+            for slot in [0, slots / 2, slots - 1] {
+                for (fault, break_it) in MARK_FAULTS {
+                    let mut sheet = self.marked(slots, 300);
+                    break_it(&mut sheet, slots, slot);
+                    let what = format!("{fault}, slot {slot} of {slots}");
+                    self.add("unfit: a mark", what, sheet);
+                }
+            }
+        }
+    }
+
+    // ---- Either ----
+
+    fn changed_bytes(&mut self) {
+        for round in 0..150 {
+            let slots = 1 + self.random.below(3);
+            let mut sheet = self.marked(slots, 40);
+            let place = match round % 3 {
+                0 => self.random.below(HEADER),
+                1 => HEADER + self.random.below(MARK * slots),
+                _ => self.random.below(sheet.len()),
+            };
+            sheet[place] ^= 1 << self.random.below(8);
+            let what = format!("round {round}, a bit of byte {place} changed");
+            self.add("either: one bit changed", what, sheet);
+        }
+        for round in 0..60 {
+            let length = self.random.below(1000);
+            let bytes = self.random.bytes(length);
+            let what = format!("round {round}, {length} random bytes");
+            self.add("unfit: random bytes", what, bytes);
+        }
+    }
+
+    fn no_sheets(&mut self) {
+        let largest = self.marked(256, u32::MAX);
+        self.add("fit: 53,256 bytes", "53,256 bytes".into(), largest.clone());
+        for (length, group) in [
+            (53_257, "unfit: 53,257 bytes"),
+            (1 << 20, "unfit: a megabyte"),
+        ] {
+            let mut longer = largest.clone();
+            longer.resize(length, 0);
+            let what = format!("a largest sheet and zeros, {length} bytes");
+            self.add(group, what, longer);
+            self.add(group, format!("{length} zeros"), vec![0; length]);
+            self.add(group, format!("{length} times 255"), vec![255; length]);
+            let random = self.random.bytes(length);
+            self.add(group, format!("{length} random bytes"), random);
+        }
+        // The listing would be that of two slots if the rest weren't there.
+        let mut tail = blank(2, 4);
+        tail.resize(1 << 20, 0);
+        self.add("unfit: a megabyte", "two slots and zeros".into(), tail);
+    }
+}
+
+type Break = fn(&mut [u8], usize, usize);
+
+/// The ways to break a mark that was whole.
+const MARK_FAULTS: [(&str, Break); 11] = [
+    ("write number 0", |sheet, _, slot| {
+        set_mark(sheet, slot, 0, 5)
+    }),
+    ("write number 0, length 0", |sheet, _, slot| {
+        set_mark(sheet, slot, 0, 0)
+    }),
+    ("write number above w", |sheet, _, slot| {
+        set_mark(sheet, slot, 301, 5)
+    }),
+    ("write number far above w", |sheet, _, slot| {
+        set_mark(sheet, slot, u32::MAX, 5)
+    }),
+    ("length 193", |sheet, _, slot| set_mark(sheet, slot, 1, 193)),
+    ("length 256", |sheet, _, slot| set_mark(sheet, slot, 1, 256)),
+    ("length 65535", |sheet, _, slot| {
+        set_mark(sheet, slot, 1, 65535)
+    }),
+    ("first zero byte", |sheet, _, slot| {
+        sheet[mark_place(slot) + 6] = 1
+    }),
+    ("second zero byte", |sheet, _, slot| {
+        sheet[mark_place(slot) + 7] = 128
+    }),
+    ("blank but for the check", |sheet, slots, slot| {
+        clear(sheet, slots, slot);
+        sheet[mark_place(slot) + 15] = 1;
+    }),
+    (
+        "blank but for the field's last byte",
+        |sheet, slots, slot| {
+            clear(sheet, slots, slot);
+            sheet[field_places(slots, slot).end - 1] = 1;
+        },
+    ),
+];
+
+fn blank(slots: usize, t: usize) -> Vec<u8> {
+    let mut sheet = vec![0; HEADER + (MARK + FIELD) * slots];
+    assert_eq!(reference::blank(&mut sheet, slots, t).number, 0);
+    sheet
+}
+
+fn clear(sheet: &mut [u8], slots: usize, slot: usize) {
+    sheet[mark_place(slot)..][..MARK].fill(0);
+    sheet[field_places(slots, slot)].fill(0);
+}
+
+fn mark_place(slot: usize) -> usize {
+    HEADER + MARK * slot
+}
+
+fn field_places(slots: usize, slot: usize) -> std::ops::Range<usize> {
+    let start = HEADER + MARK * slots + FIELD * slot;
+    start..start + FIELD
+}
+
+/// Puts write number and length into a mark, with any check.
+fn set_mark(sheet: &mut [u8], slot: usize, number: u32, length: u16) {
+    let mark = &mut sheet[mark_place(slot)..][..MARK];
+    mark[0..4].copy_from_slice(&number.to_be_bytes());
+    mark[4..6].copy_from_slice(&length.to_be_bytes());
+    mark[8..16].fill(0x5a);
+}
+
+/// A small seeded generator (splitmix64).
+struct Random(u64);
+
+impl Random {
+    fn next(&mut self) -> u64 {
+        self.0 = self.0.wrapping_add(0x9e3779b97f4a7c15);
+        let mut z = self.0;
+        z = (z ^ (z >> 30)).wrapping_mul(0xbf58476d1ce4e5b9);
+        z = (z ^ (z >> 27)).wrapping_mul(0x94d049bb133111eb);
+        z ^ (z >> 31)
+    }
+
+    fn below(&mut self, bound: usize) -> usize {
+        (self.next() % bound as u64) as usize
+    }
+
+    fn bytes(&mut self, length: usize) -> Vec<u8> {
+        (0..length).map(|_| self.next() as u8).collect()
+    }
+}
