@@ -7,6 +7,7 @@ ghost use Rattle.modes.specs.Answers.{macOutcome, authenticating};
 ghost use Rattle.captions.specs.Answers.{outcome};
 ghost use Rattle.captions.specs.Calls.{blanking, writing, clearing, reading};
 ghost use Rattle.sheet.specs.Inner.{pair};
+ghost use Rattle.listing.specs.Listing.{listed};
 ghost use Rattle.captions_c.specs.Answer.{crossed};
 
 #[repr(C)]
@@ -136,4 +137,12 @@ pub extern "C" fn captions_read(
 {
     let a = sheet::read(sealing, checking, sheet, slot, window);
     sheet_answer(a)
+}
+
+// The bytes of the listing written; 0, and out as it was, where out is too small.
+#[no_mangle]
+pub extern "C" fn captions_list(sheet: &[u8], out: &mut [u8]) -> usize
+    ensures { λ r. ⌜ (r, now (out .exit)) ≡ listed (now (sheet .entry)) (now (out .entry)) ⌝ }
+{
+    listing::list(sheet, out)
 }

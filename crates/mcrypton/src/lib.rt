@@ -4,6 +4,7 @@ use schedule::Register;
 ghost use mathlib.Core.Path.{_≡_};
 ghost use Prim.Native.Nat.{_/_, _%_, _<_};
 ghost use lib.ListN.{getD, length};
+ghost use Rattle.rounds.specs.Array.{tables};
 ghost use Rattle.schedule.specs.Schedule.{eightWords, start as startOf};
 ghost use Rattle.mcrypton.specs.Cipher.{pathRound};
 ghost use Rattle.mcrypton.specs.Registers.{encryptFrom, decryptFrom};
@@ -17,13 +18,20 @@ pub enum BlockAnswer {
 }
 
 // Round r by the path that bit r - 1 of the path number p chooses: 1 is the word path.
-fn path_round(d: Direction, p: u16, r: usize, k: [u16; 4], a: [u16; 4]) -> [u16; 4]
-    requires { ⌜ (0 < r) × (r < 13) ⌝ }
+fn path_round(
+    t: &[[u16; 16]; 4],
+    d: Direction,
+    p: u16,
+    r: usize,
+    k: [u16; 4],
+    a: [u16; 4],
+) -> [u16; 4]
+    requires { ⌜ (now t ≡ tables d) × (0 < r) × (r < 13) ⌝ }
     ensures { λ z. ⌜ z ≡ pathRound d p r k a ⌝ }
 {
     let bit = (p >> (r - 1)) % 2;
     if bit == 1 {
-        rounds::word_round(d, k, a)
+        rounds::word_round(t, d, k, a)
     } else {
         rounds::nibble_round(d, k, a)
     }
@@ -34,12 +42,14 @@ fn encrypt_by_path(p: u16, u: Register, b: [u16; 4]) -> [u16; 4]
     requires { ⌜ u .round ≡ 0 ⌝ }
     ensures { λ z. ⌜ z ≡ encryptFrom p u b ⌝ }
 {
+    let s = rounds::sbox_tables();
+    let t = rounds::word_tables(Direction::Encrypt);
     let mut v = u;
-    let mut a = rounds::sigma(v.round_key(), b);
+    let mut a = rounds::sigma(v.round_key(&s), b);
     let mut r: usize = 0;
     while r < 12 {
         let next = v.forward();
-        let array = path_round(Direction::Encrypt, p, r + 1, next.round_key(), a);
+        let array = path_round(&t, Direction::Encrypt, p, r + 1, next.round_key(&s), a);
         v = next;
         a = array;
         r += 1;
@@ -52,16 +62,19 @@ fn decrypt_by_path(p: u16, u: Register, b: [u16; 4]) -> [u16; 4]
     requires { ⌜ u .round ≡ 12 ⌝ }
     ensures { λ z. ⌜ z ≡ decryptFrom p u b ⌝ }
 {
+    let s = rounds::sbox_tables();
+    let t = rounds::word_tables(Direction::Decrypt);
     let mut v = u;
-    let mut a = rounds::sigma(rounds::phi(v.round_key()), b);
+    let mut a = rounds::sigma(rounds::phi(v.round_key(&s)), b);
     let mut r: usize = 0;
     while r < 12 {
         let next = v.backward();
         let array = path_round(
+            &t,
             Direction::Decrypt,
             p,
             r + 1,
-            rounds::phi(next.round_key()),
+            rounds::phi(next.round_key(&s)),
             a,
         );
         v = next;
@@ -76,12 +89,14 @@ pub fn encrypt_words(u: Register, b: [u16; 4]) -> [u16; 4]
     requires { ⌜ u .round ≡ 0 ⌝ }
     ensures { λ z. ⌜ z ≡ encryptFrom 0 u b ⌝ }
 {
+    let s = rounds::sbox_tables();
+    let t = rounds::word_tables(Direction::Encrypt);
     let mut v = u;
-    let mut a = rounds::sigma(v.round_key(), b);
+    let mut a = rounds::sigma(v.round_key(&s), b);
     let mut r: usize = 0;
     while r < 12 {
         let next = v.forward();
-        let array = rounds::word_round(Direction::Encrypt, next.round_key(), a);
+        let array = rounds::word_round(&t, Direction::Encrypt, next.round_key(&s), a);
         v = next;
         a = array;
         r += 1;
@@ -94,12 +109,14 @@ pub fn decrypt_words(u: Register, b: [u16; 4]) -> [u16; 4]
     requires { ⌜ u .round ≡ 12 ⌝ }
     ensures { λ z. ⌜ z ≡ decryptFrom 0 u b ⌝ }
 {
+    let s = rounds::sbox_tables();
+    let t = rounds::word_tables(Direction::Decrypt);
     let mut v = u;
-    let mut a = rounds::sigma(rounds::phi(v.round_key()), b);
+    let mut a = rounds::sigma(rounds::phi(v.round_key(&s)), b);
     let mut r: usize = 0;
     while r < 12 {
         let next = v.backward();
-        let array = rounds::word_round(Direction::Decrypt, rounds::phi(next.round_key()), a);
+        let array = rounds::word_round(&t, Direction::Decrypt, rounds::phi(next.round_key(&s)), a);
         v = next;
         a = array;
         r += 1;

@@ -28,15 +28,15 @@ pub gamma-is : (d : Direction) (a : List ℕ) (o : ℕ) {p q r s : ℕ} → o �
 unfolding γ
 gamma-is d a o e p q r s = rw (p, q, r, s, e)
 
--- a round by words, where the direction d turned out to be v and v's tables are lent as t
-pub word-round-is : (v : Direction) {d : Direction} (k a : List ℕ) (t : List (List ℕ)) {p q r s : ℕ} {z : List ℕ} → d ≡ v → t ≡ tables v
-    → p ≡ xor4 (λ k. getD (getD t ((0 + k + offset v) % 4) []) (cell a k 0) 0)
-    → q ≡ xor4 (λ k. getD (getD t ((1 + k + offset v) % 4) []) (cell a k 1) 0)
-    → r ≡ xor4 (λ k. getD (getD t ((2 + k + offset v) % 4) []) (cell a k 2) 0)
-    → s ≡ xor4 (λ k. getD (getD t ((3 + k + offset v) % 4) []) (cell a k 3) 0)
+-- a round by words, where the direction's tables are lent as t and o is what it adds to their index
+pub word-round-is : (d : Direction) (k a : List ℕ) (t : List (List ℕ)) (o : ℕ) {p q r s : ℕ} {z : List ℕ} → t ≡ tables d → o ≡ offset d
+    → p ≡ xor4 (λ k. getD (getD t ((0 + k + o) % 4) []) (cell a k 0) 0)
+    → q ≡ xor4 (λ k. getD (getD t ((1 + k + o) % 4) []) (cell a k 1) 0)
+    → r ≡ xor4 (λ k. getD (getD t ((2 + k + o) % 4) []) (cell a k 2) 0)
+    → s ≡ xor4 (λ k. getD (getD t ((3 + k + o) % 4) []) (cell a k 3) 0)
     → z ≡ σ k (p ∷ q ∷ r ∷ s ∷ []) → z ≡ wordRound d k a
 unfolding wordRow entry
-word-round-is v {d} k a t f e p q r s z = z ∙ rw (p, q, r, s, e, f)
+word-round-is d k a t o e f p q r s z = z ∙ rw (p, q, r, s, e, f)
 
 -- ---- φ by rotations
 

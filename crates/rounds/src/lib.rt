@@ -5,7 +5,7 @@ ghost use lib.ListN.{getD};
 ghost use lib.Bits.{bitAnd};
 ghost use Prim.Native.Nat.{_+_, _*_, _%_, _<_};
 ghost use Rattle.rounds.specs.Word.{rotate as rotated, row, nibble as nibbleOf, xor4};
-ghost use Rattle.rounds.specs.Array.{sboxes, sbox, offset, mask as maskOf, cell, γ, π, τ, σ, φ, nibbleRound, wordRow, wordRound};
+ghost use Rattle.rounds.specs.Array.{sboxes, sbox, offset, mask as maskOf, cell, γ, π, τ, σ, φ, nibbleRound, tables, wordRound};
 
 pub enum Direction {
     Encrypt,
@@ -196,7 +196,24 @@ pub fn pack(a: u16, b: u16, c: u16, d: u16) -> u16
     ((a * 16 + b) * 16 + c) * 16 + d
 }
 
-// Entry x of table s of four, s taken modulo 4. Tables are lent, since each use of a constant array copies it.
+// The S-boxes, and the word tables of a direction. They are taken once for a block and lent on, since each use of a
+// constant array copies it: taken anew in each round they made encryption half as slow again.
+pub fn sbox_tables() -> [[u16; 16]; 4]
+    ensures { λ r. ⌜ r ≡ sboxes ⌝ }
+{
+    SBOXES
+}
+
+pub fn word_tables(d: Direction) -> [[u16; 16]; 4]
+    ensures { λ r. ⌜ r ≡ tables d ⌝ }
+{
+    match d {
+        Direction::Encrypt => ENCRYPT_TABLES,
+        Direction::Decrypt => DECRYPT_TABLES,
+    }
+}
+
+// Entry x of table s of four, s taken modulo 4.
 fn look_up(t: &[[u16; 16]; 4], s: usize, x: u16) -> u16
     requires { ⌜ x < 16 ⌝ }
     ensures { λ r. ⌜ r ≡ getD (getD (now (t .entry)) (s % 4) []) x 0 ⌝ }
@@ -216,15 +233,15 @@ fn sub(t: &[[u16; 16]; 4], s: usize, x: u16) -> u16
 }
 
 // S0 on each nibble of a word.
-pub fn sub_word(w: u16) -> u16
+pub fn sub_word(t: &[[u16; 16]; 4], w: u16) -> u16
+    requires { ⌜ now t ≡ sboxes ⌝ }
     ensures { λ r. ⌜ r ≡ row (λ i. sbox 0 (nibbleOf w i)) ⌝ }
 {
-    let t = SBOXES;
     pack(
-        sub(&t, 0, nibble(w, 0)),
-        sub(&t, 0, nibble(w, 1)),
-        sub(&t, 0, nibble(w, 2)),
-        sub(&t, 0, nibble(w, 3)),
+        sub(t, 0, nibble(w, 0)),
+        sub(t, 0, nibble(w, 1)),
+        sub(t, 0, nibble(w, 2)),
+        sub(t, 0, nibble(w, 3)),
     )
 }
 
@@ -368,34 +385,19 @@ fn word_row(t: &[[u16; 16]; 4], o: usize, a: [u16; 4], i: usize) -> u16
         ^ (look_up(t, i + 2 + o, nibble(a[2], i)) ^ look_up(t, i + 3 + o, nibble(a[3], i)))
 }
 
-// One round by words.
-pub fn word_round(d: Direction, k: [u16; 4], a: [u16; 4]) -> [u16; 4]
+// One round by words, with the direction's tables lent.
+pub fn word_round(t: &[[u16; 16]; 4], d: Direction, k: [u16; 4], a: [u16; 4]) -> [u16; 4]
+    requires { ⌜ now t ≡ tables d ⌝ }
     ensures { λ r. ⌜ r ≡ wordRound d k a ⌝ }
 {
-    match d {
-        Direction::Encrypt => {
-            let t = ENCRYPT_TABLES;
-            sigma(
-                k,
-                [
-                    word_row(&t, 0, a, 0),
-                    word_row(&t, 0, a, 1),
-                    word_row(&t, 0, a, 2),
-                    word_row(&t, 0, a, 3),
-                ],
-            )
-        }
-        Direction::Decrypt => {
-            let t = DECRYPT_TABLES;
-            sigma(
-                k,
-                [
-                    word_row(&t, 2, a, 0),
-                    word_row(&t, 2, a, 1),
-                    word_row(&t, 2, a, 2),
-                    word_row(&t, 2, a, 3),
-                ],
-            )
-        }
-    }
+    let o = index_offset(d);
+    sigma(
+        k,
+        [
+            word_row(t, o, a, 0),
+            word_row(t, o, a, 1),
+            word_row(t, o, a, 2),
+            word_row(t, o, a, 3),
+        ],
+    )
 }

@@ -1,6 +1,7 @@
 // The key schedule of mCrypton (document 000, 2.3): a register that is stepped forward or backward. No round key is stored.
 ghost use mathlib.Core.Path.{_≡_};
 ghost use Prim.Native.Nat.{_<_};
+ghost use Rattle.rounds.specs.Array.{sboxes};
 ghost use Rattle.schedule.specs.Schedule.{forward as forwardOf, backward as backwardOf, registerT as registerTOf, lastWord, roundKey, backStart};
 
 // A key register: up to eight 16-bit words, the word count and the round.
@@ -171,15 +172,15 @@ impl Register {
         }
     }
 
-    // T of the register.
-    fn register_t(self) -> u16
-        requires { ⌜ self .round < 13 ⌝ }
+    // T of the register, with the S-boxes lent.
+    fn register_t(self, s: &[[u16; 16]; 4]) -> u16
+        requires { ⌜ (self .round < 13) × (now s ≡ sboxes) ⌝ }
         ensures { λ r. ⌜ r ≡ registerTOf self ⌝ }
     {
         let u = self.words;
         let round = self.round;
         let c = CONSTANTS;
-        rounds::sub_word(u[0]) ^ c[round] * 0x1111
+        rounds::sub_word(s, u[0]) ^ c[round] * 0x1111
     }
 
     // The word that the last round key word is made from.
@@ -191,12 +192,12 @@ impl Register {
         if count == 4 { u[0] } else { u[4] }
     }
 
-    // The round key.
-    pub fn round_key(self) -> [u16; 4]
-        requires { ⌜ self .round < 13 ⌝ }
+    // The round key, with the S-boxes lent.
+    pub fn round_key(self, s: &[[u16; 16]; 4]) -> [u16; 4]
+        requires { ⌜ (self .round < 13) × (now s ≡ sboxes) ⌝ }
         ensures { λ r. ⌜ r ≡ roundKey self ⌝ }
     {
-        let t = self.register_t();
+        let t = self.register_t(s);
         let u = self.words;
         [
             u[1] ^ rounds::nibble(t, 0) * 4096,

@@ -1,0 +1,6 @@
+pub mod Decimal
+pub mod Text
+pub mod Lines
+pub mod Whole
+pub mod Lengths
+pub mod Example
