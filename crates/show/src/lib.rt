@@ -1,9 +1,13 @@
 // What the programs that print vectors share: inputs by a rule, and bytes as hex digits.
 use libc::STDOUT_FILENO;
+ghost use mathlib.Core.Path.{_≡_};
 ghost use Prim.Native.Nat.{_<_};
+ghost use lib.ListN.{length};
 
 // Byte i of out becomes first + step * i, modulo 256.
-pub fn pattern(out: &mut [u8], step: u8, first: usize) {
+pub fn pattern(out: &mut [u8], step: u8, first: usize)
+    ensures { λ _. ⌜ length (now (out .exit)) ≡ length (now (out .entry)) ⌝ }
+{
     let mut x = first % 256;
     let mut i = 0;
     while i < out.len() {

@@ -1,4 +1,7 @@
 // Prints texts of n blocks encrypted and decrypted by CBC: what the second program prints as `vectors cbc`.
+ghost use mathlib.Core.Path.{_≡_};
+ghost use Prim.Native.Nat.{_*_, _≤_};
+ghost use lib.ListN.{length};
 
 // A text, or a dash where it is empty.
 fn text_or_dash(s: &[u8]) {
@@ -9,41 +12,58 @@ fn text_or_dash(s: &[u8]) {
     }
 }
 
-// The line of the key of t words and the text of n blocks.
-fn line(t: usize, n: usize) {
-    if t <= 8 && n <= 24 {
-        let mut key = [0u8; 16];
-        show::pattern(&mut key, 29, 71 * n + 13);
-        let mut start = [0u8; 8];
-        show::pattern(&mut start, 17, n);
-        let mut plain = [0u8; 192];
-        show::pattern(&mut plain, 53, 31 * n + 7);
-        let mut sealed = [0u8; 192];
-        let mut opened = [0u8; 192];
-        let k = cipher::load(t, &key[..2 * t]);
-        modes::cbc_encrypt(k, start, &plain[..8 * n], &mut sealed[..8 * n]);
-        modes::cbc_decrypt(k, start, &plain[..8 * n], &mut opened[..8 * n]);
-        show::number(t);
-        show::text(b" ");
-        show::number(n);
-        show::text(b" ");
-        text_or_dash(&sealed[..8 * n]);
-        show::text(b" ");
-        text_or_dash(&opened[..8 * n]);
-        show::text(b"\n");
-    }
+// Both texts that come of plain, n blocks, by way of out.
+fn texts(key: &[u8], plain: &[u8], n: usize, out: &mut [u8])
+    requires { ⌜ length (now plain) ≡ 8 * n ⌝ }
+    requires { ⌜ length (now out) ≡ 8 * n ⌝ }
+{
+    let mut start = [0u8; 8];
+    show::pattern(&mut start, 17, n);
+    let k = cipher::load(key.len() / 2, key);
+    modes::cbc_encrypt(k, start, plain, out);
+    text_or_dash(out);
+    show::text(b" ");
+    modes::cbc_decrypt(k, start, plain, out);
+    text_or_dash(out);
 }
 
-fn lines(t: usize) {
-    line(t, 0);
-    line(t, 1);
-    line(t, 2);
-    line(t, 3);
-    line(t, 24);
+// The line of the key of as many bytes as key has and the text of n blocks; n chooses the bytes.
+fn line(key: &mut [u8], plain: &mut [u8], n: usize, out: &mut [u8])
+    requires { ⌜ n ≤ 24 ⌝ }
+    requires { ⌜ length (now plain) ≡ 8 * n ⌝ }
+    requires { ⌜ length (now out) ≡ 8 * n ⌝ }
+{
+    show::pattern(key, 29, 71 * n + 13);
+    show::pattern(plain, 53, 31 * n + 7);
+    show::number(key.len() / 2);
+    show::text(b" ");
+    show::number(n);
+    show::text(b" ");
+    texts(key, plain, n, out);
+    show::text(b"\n");
+}
+
+fn line_of(key: &mut [u8], n: usize)
+    requires { ⌜ n ≤ 24 ⌝ }
+{
+    let mut plain = [0u8; 192];
+    let mut out = [0u8; 192];
+    line(key, &mut plain[..8 * n], n, &mut out[..8 * n]);
+}
+
+fn lines(key: &mut [u8]) {
+    line_of(key, 0);
+    line_of(key, 1);
+    line_of(key, 2);
+    line_of(key, 3);
+    line_of(key, 24);
 }
 
 fn main() {
-    lines(4);
-    lines(6);
-    lines(8);
+    let mut short = [0u8; 8];
+    lines(&mut short);
+    let mut middle = [0u8; 12];
+    lines(&mut middle);
+    let mut long = [0u8; 16];
+    lines(&mut long);
 }

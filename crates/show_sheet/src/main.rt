@@ -1,0 +1,154 @@
+// Prints calls on a sheet of 3 slots, what each slot reads as, and the listing: what the second program prints as `vectors sheet`.
+use captions::Answer;
+ghost use Prim.Native.Nat.{_≤_};
+ghost use lib.ListN.{length};
+
+fn numbers(number: usize, length: usize) {
+    show::number(number);
+    show::text(b" ");
+    show::number(length);
+    show::text(b" ");
+}
+
+fn answer(a: Answer) {
+    match a {
+        Answer::Accepted(n) => numbers(0, n as usize),
+        Answer::WrongKey => numbers(1, 0),
+        Answer::TwinKeys => numbers(2, 0),
+        Answer::WrongSpan => numbers(3, 0),
+        Answer::UnfitSheet => numbers(4, 0),
+        Answer::OtherKeyClass => numbers(5, 0),
+        Answer::NoSuchSlot => numbers(6, 0),
+        Answer::Overlong => numbers(7, 0),
+        Answer::Worn => numbers(8, 0),
+        Answer::Blank => numbers(9, 0),
+        Answer::Altered => numbers(10, 0),
+    }
+}
+
+// The line of a call: its name, its answer, and the CMAC of the whole sheet under the checking key.
+fn line(name: &[u8], a: Answer, checking: &[u8], sheet: &[u8]) {
+    show::text(name);
+    answer(a);
+    let mut check = [0u8; 8];
+    modes::cmac(checking, sheet, &mut check);
+    show::hex(&check);
+    show::text(b"\n");
+}
+
+fn write(sealing: &[u8], checking: &[u8], sheet: &mut [u8], slot: usize, caption: &[u8]) {
+    let a = sheet::write(sealing, checking, sheet, slot, caption);
+    line(b"write ", a, checking, sheet);
+}
+
+// Writes as many bytes as caption has, by the rule of step and first.
+fn write_pattern(
+    sealing: &[u8],
+    checking: &[u8],
+    sheet: &mut [u8],
+    slot: usize,
+    caption: &mut [u8],
+    step: u8,
+    first: usize,
+) {
+    show::pattern(caption, step, first);
+    write(sealing, checking, sheet, slot, caption);
+}
+
+fn write_short(sealing: &[u8], checking: &[u8], sheet: &mut [u8]) {
+    let mut caption = [0u8; 17];
+    write_pattern(sealing, checking, sheet, 1, &mut caption, 53, 7);
+}
+
+fn write_longest(sealing: &[u8], checking: &[u8], sheet: &mut [u8]) {
+    let mut caption = [0u8; 192];
+    write_pattern(sealing, checking, sheet, 2, &mut caption, 31, 5);
+}
+
+fn write_overlong(sealing: &[u8], checking: &[u8], sheet: &mut [u8]) {
+    let mut caption = [0u8; 193];
+    write_pattern(sealing, checking, sheet, 2, &mut caption, 31, 5);
+}
+
+fn blank(checking: &[u8], sheet: &mut [u8]) {
+    let a = sheet::blank(sheet, 3, checking.len() / 2);
+    line(b"blank ", a, checking, sheet);
+}
+
+fn clear(checking: &[u8], sheet: &mut [u8], slot: usize) {
+    let a = sheet::clear(sheet, slot);
+    line(b"clear ", a, checking, sheet);
+}
+
+fn accepted_writes(sealing: &[u8], checking: &[u8], sheet: &mut [u8]) {
+    write(sealing, checking, sheet, 0, b"");
+    write_short(sealing, checking, sheet);
+    write_longest(sealing, checking, sheet);
+    write(sealing, checking, sheet, 1, b"abc");
+}
+
+fn refused_writes(sealing: &[u8], checking: &[u8], sheet: &mut [u8]) {
+    write(sealing, checking, sheet, 3, b"abc");
+    write_overlong(sealing, checking, sheet);
+}
+
+fn calls(sealing: &[u8], checking: &[u8], sheet: &mut [u8]) {
+    blank(checking, sheet);
+    accepted_writes(sealing, checking, sheet);
+    clear(checking, sheet, 0);
+    refused_writes(sealing, checking, sheet);
+}
+
+fn read(sealing: &[u8], checking: &[u8], sheet: &[u8], slot: usize) {
+    show::text(b"read ");
+    show::number(slot);
+    show::text(b" ");
+    let mut window = [0u8; 192];
+    let a = sheet::read(sealing, checking, sheet, slot, &mut window);
+    answer(a);
+    show::hex(&window);
+    show::text(b"\n");
+}
+
+fn reads(sealing: &[u8], checking: &[u8], sheet: &[u8]) {
+    read(sealing, checking, sheet, 0);
+    read(sealing, checking, sheet, 1);
+    read(sealing, checking, sheet, 2);
+    read(sealing, checking, sheet, 3);
+}
+
+fn list(sheet: &[u8]) {
+    let mut text = [0u8; 128];
+    let n = listing::list(sheet, &mut text);
+    show::text(&text[..n]);
+}
+
+// The calls, reads and listing of a sheet.
+fn lines(sealing: &[u8], checking: &[u8]) {
+    let mut sheet = [0u8; 632];
+    calls(sealing, checking, &mut sheet);
+    reads(sealing, checking, &sheet);
+    list(&sheet);
+}
+
+// The lines under keys of as many bytes as sealing and checking have.
+fn lines_of(sealing: &mut [u8], checking: &mut [u8])
+    requires { ⌜ length (now sealing) ≤ 16 ⌝ }
+{
+    let t = sealing.len() / 2;
+    show::pattern(sealing, 29, 71 * t + 13);
+    show::pattern(checking, 29, 71 * (t + 1) + 13);
+    lines(sealing, checking);
+}
+
+fn main() {
+    let mut short = [0u8; 8];
+    let mut other_short = [0u8; 8];
+    lines_of(&mut short, &mut other_short);
+    let mut middle = [0u8; 12];
+    let mut other_middle = [0u8; 12];
+    lines_of(&mut middle, &mut other_middle);
+    let mut long = [0u8; 16];
+    let mut other_long = [0u8; 16];
+    lines_of(&mut long, &mut other_long);
+}
