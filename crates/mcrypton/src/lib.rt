@@ -84,7 +84,7 @@ fn decrypt_by_path(p: u16, u: Register, b: [u16; 4]) -> [u16; 4]
     rounds::phi(a)
 }
 
-// A block encrypted by words alone. Any path number gives the same; the choice in each round costs half as much again.
+// A block encrypted by words alone: any path number gives the same, and this spares the choice in each round.
 pub fn encrypt_words(u: Register, b: [u16; 4]) -> [u16; 4]
     requires { ⌜ u .round ≡ 0 ⌝ }
     ensures { λ z. ⌜ z ≡ encryptFrom 0 u b ⌝ }

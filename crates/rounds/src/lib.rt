@@ -197,7 +197,7 @@ pub fn pack(a: u16, b: u16, c: u16, d: u16) -> u16
 }
 
 // The S-boxes, and the word tables of a direction. They are taken once for a block and lent on, since each use of a
-// constant array copies it: taken anew in each round they made encryption half as slow again.
+// constant array copies it.
 pub fn sbox_tables() -> [[u16; 16]; 4]
     ensures { λ r. ⌜ r ≡ sboxes ⌝ }
 {
