@@ -18,16 +18,6 @@ use Rattle.captions.specs.Claim.{Sound}
 use Rattle.captions.proofs.Tables.{Unmet, unmet-first}
 use Rattle.demand3.specs.Demand3.{byPaths}
 
--- all path numbers mean the same
-pub same-paths : (p q p′ q′ : ℕ) (k : Keys) → byPaths p q k ≡ byPaths p′ q′ k
-unfolding byPaths
-same-paths p q p′ q′ k =
-    λ i. record {
-      E = λ b. (sym (loaded-encrypts p (k .sealing) b) ∙ loaded-encrypts p′ (k .sealing) b) i;
-      D = λ b. (sym (loaded-decrypts q (k .sealing) b) ∙ loaded-decrypts q′ (k .sealing) b) i;
-      M = λ b. (sym (loaded-encrypts p (k .checking) b) ∙ loaded-encrypts p′ (k .checking) b) i;
-    }
-
 -- ---- keys that pass tests 1, 2 and 5
 
 module _ (k : Keys) (s : List ℕ) (u : Unmet (keyTests k)) (c : otherClass k s ≡ false) where
@@ -64,3 +54,15 @@ module _ (k : Keys) (s : List ℕ) (u : Unmet (keyTests k)) (c : otherClass k s 
         seals = (promise (record { known = h; size = sealing-size; bytes = a })) .invertible;
         checks = (promise (record { known = h; size = checking-size; bytes = b })) .invertible .encrypts;
       }
+
+-- ---- any keys
+
+-- all path numbers mean the same
+pub same-paths : (p q p′ q′ : ℕ) (k : Keys) → byPaths p q k ≡ byPaths p′ q′ k
+unfolding byPaths
+same-paths p q p′ q′ k =
+    λ i. record {
+      E = λ b. (sym (loaded-encrypts p (k .sealing) b) ∙ loaded-encrypts p′ (k .sealing) b) i;
+      D = λ b. (sym (loaded-decrypts q (k .sealing) b) ∙ loaded-decrypts q′ (k .sealing) b) i;
+      M = λ b. (sym (loaded-encrypts p (k .checking) b) ∙ loaded-encrypts p′ (k .checking) b) i;
+    }
