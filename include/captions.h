@@ -1,7 +1,7 @@
 /* Caption sheets: the C interface of the proved library.
  *
- * Link target/staticlib/libcaptions_c.a, which `rt staticlib captions_c` makes
- * in the repository root. It is for x86-64.
+ * Link libcaptions_c.a: `make` puts it into build/, and where it is installed
+ * `pkg-config --cflags --libs captions` names it. It is for Linux on x86-64.
  *
  * The library takes any length and any number: what it can't use, it refuses.
  * It can't see whether a pointer is good, so every caller owes this:

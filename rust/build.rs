@@ -3,14 +3,23 @@
 use std::path::Path;
 
 fn main() {
-    let package = std::env::var("CARGO_MANIFEST_DIR").expect("cargo names the package's folder");
-    let folder = Path::new(&package).join("../target/staticlib");
+    let of_cargo = |name: &str| std::env::var(name).expect("cargo sets it for a build script");
+    let system = of_cargo("CARGO_CFG_TARGET_OS");
+    let machine = of_cargo("CARGO_CFG_TARGET_ARCH");
+    if (system.as_str(), machine.as_str()) != ("linux", "x86_64") {
+        println!(
+            "cargo::error=the proved library is for Linux on x86_64, and this build is for \
+             {system} on {machine}"
+        );
+        return;
+    }
+    let folder = Path::new(&of_cargo("CARGO_MANIFEST_DIR")).join("../build");
     let library = folder.join("libcaptions_c.a");
     println!("cargo::rerun-if-changed={}", library.display());
     if !library.is_file() {
         println!(
-            "cargo::error=the proved library is missing (target/staticlib/libcaptions_c.a): \
-             run `rt staticlib captions_c` in the repository root"
+            "cargo::error=the proved library is missing (build/libcaptions_c.a): run `make` in \
+             the repository root"
         );
         return;
     }

@@ -1,27 +1,37 @@
 //! The baseline held to the second program before anything is timed: a
 //! baseline that is wrong is no measure.
 
-use crate::baseline;
+use crate::baseline::{self, Looped, SameIdeas, Style};
 use differential::random::Random;
 use differential::sheets::{
-    blank_sheet, caption_length, fit_sheet, near_sheet, Keys, CLASSES, FAULTS, FIELD,
+    caption_length, fit_sheet, kinds, near_sheet, Keys, CLASSES, FAULTS, FIELD,
 };
 use reference::Answer;
 
 /// Panics where the two differ; else how many calls were compared.
 pub fn check_baseline() -> u64 {
     let mut random = Random::of_part(900);
-    blocks(&mut random) + cmacs(&mut random) + sheets(&mut random) + layouts(&mut random)
+    blocks(&mut random) + check_style::<Looped>(&mut random) + check_style::<SameIdeas>(&mut random)
+}
+
+fn check_style<S: Style>(random: &mut Random) -> u64 {
+    cmacs::<S>(random) + sheets::<S>(random) + layouts::<S>(random)
 }
 
 type BlockCall = fn(&[u8], &[u8], &mut [u8]) -> Answer;
 
 /// The baseline's block calls, each with the second program's.
 const BLOCK_CALLS: [(BlockCall, BlockCall); 4] = [
-    (baseline::encrypt_block, reference::encrypt_block),
-    (baseline::decrypt_block, reference::decrypt_block),
-    (baseline::encrypt_block_unrolled, reference::encrypt_block),
-    (baseline::decrypt_block_unrolled, reference::decrypt_block),
+    (baseline::encrypt_block::<Looped>, reference::encrypt_block),
+    (baseline::decrypt_block::<Looped>, reference::decrypt_block),
+    (
+        baseline::encrypt_block::<SameIdeas>,
+        reference::encrypt_block,
+    ),
+    (
+        baseline::decrypt_block::<SameIdeas>,
+        reference::decrypt_block,
+    ),
 ];
 
 fn blocks(random: &mut Random) -> u64 {
@@ -50,13 +60,13 @@ fn blocks(random: &mut Random) -> u64 {
     compared
 }
 
-fn cmacs(random: &mut Random) -> u64 {
+fn cmacs<S: Style>(random: &mut Random) -> u64 {
     let mut compared = 0;
     for t in CLASSES {
         for length in (0..=210).chain([65_536]) {
             let (key, message) = (random.bytes(2 * t), random.bytes(length));
             let mut outs = [[0; 8]; 2];
-            baseline::cmac(&key, &message, &mut outs[0]);
+            baseline::cmac::<S>(&key, &message, &mut outs[0]);
             reference::cmac(&key, &message, &mut outs[1]);
             assert_eq!(outs[0], outs[1], "CMAC of {length} bytes");
             compared += 1;
@@ -66,12 +76,12 @@ fn cmacs(random: &mut Random) -> u64 {
 }
 
 /// Lists of calls, each answer and every byte compared.
-fn sheets(random: &mut Random) -> u64 {
+fn sheets<S: Style>(random: &mut Random) -> u64 {
     let mut compared = 0;
-    for t in CLASSES {
+    for (edition, t) in kinds() {
         for n in [1, 2, 3, 16] {
-            let keys = Keys::unlike(random, t);
-            let mut sheets = [blank_sheet(n, t), blank_sheet(n, t)];
+            let keys = Keys::own(random, edition, t);
+            let mut sheets = [edition.blank_sheet(n, t), edition.blank_sheet(n, t)];
             for _ in 0..150 {
                 let slot = random.below(n + 1);
                 let length = caption_length(random) + random.pick(&[0, 0, 0, 193]);
@@ -83,17 +93,20 @@ fn sheets(random: &mut Random) -> u64 {
                 };
                 let [ours, theirs] = &mut sheets;
                 let answers = if random.once_in(4) {
-                    (baseline::clear(ours, slot), reference::clear(theirs, slot))
+                    (
+                        baseline::clear::<S>(ours, slot),
+                        reference::clear(theirs, slot),
+                    )
                 } else {
                     let (sealing, checking) = (&keys.sealing, &keys.checking);
                     (
-                        baseline::write(sealing, checking, ours, slot, &caption),
+                        baseline::write::<S>(sealing, checking, ours, slot, &caption),
                         reference::write(sealing, checking, theirs, slot, &caption),
                     )
                 };
                 assert_eq!(answers.0, answers.1);
                 assert!(ours == theirs, "a sheet of {n} slots");
-                compare_reads(&keys, ours, slot);
+                compare_reads::<S>(&keys, ours, slot);
                 compared += 2;
             }
         }
@@ -101,28 +114,28 @@ fn sheets(random: &mut Random) -> u64 {
     compared
 }
 
-fn compare_reads(keys: &Keys, sheet: &[u8], slot: usize) -> Answer {
+fn compare_reads<S: Style>(keys: &Keys, sheet: &[u8], slot: usize) -> Answer {
     let mut windows = [[1; FIELD]; 2];
     let (sealing, checking) = (&keys.sealing, &keys.checking);
-    let answer = baseline::read(sealing, checking, sheet, slot, &mut windows[0]);
+    let answer = baseline::read::<S>(sealing, checking, sheet, slot, &mut windows[0]);
     let true_answer = reference::read(sealing, checking, sheet, slot, &mut windows[1]);
     assert_eq!(answer, true_answer, "a read of slot {slot}");
     assert_eq!(windows[0], windows[1], "a read of slot {slot}");
     answer
 }
 
-fn layouts(random: &mut Random) -> u64 {
+fn layouts<S: Style>(random: &mut Random) -> u64 {
     let mut compared = 0;
-    for t in CLASSES {
+    for (edition, t) in kinds() {
         for n in [1, 2, 3, 256] {
             for fault in 0..FAULTS {
                 for _ in 0..20 {
-                    let near = near_sheet(random, n, t, fault);
-                    for sheet in [near, fit_sheet(random, n, t)] {
+                    let near = near_sheet(random, edition, n, t, fault);
+                    for sheet in [near, fit_sheet(random, edition, n, t)] {
                         let mut ours = sheet.clone();
                         let mut theirs = sheet;
-                        assert_eq!(baseline::fit(&ours), reference::fit(&theirs));
-                        let answer = baseline::clear(&mut ours, n);
+                        assert_eq!(baseline::fit::<S>(&ours), reference::fit(&theirs));
+                        let answer = baseline::clear::<S>(&mut ours, n);
                         assert_eq!(answer, reference::clear(&mut theirs, n));
                         compared += 2;
                     }

@@ -2,6 +2,11 @@
 //! beside. Word tables (document 000, 4.1), φ by rotations and masks, the
 //! state in four words, and the key schedule on the fly: no round key is
 //! stored. The round is written once for each key size by the compiler.
+//!
+//! Each call comes in two styles. `Looped` is the baseline: a round a turn, a
+//! block at a time. `SameIdeas` has what the library's speed rests on besides:
+//! the rounds written out, four blocks in one walk of the register, and a
+//! written mark's last bytes compared as one number.
 
 use reference::{
     Answer, ALTERED, BLANK, NO_SUCH_SLOT, OTHER_KEY_CLASS, OVERLONG, TWIN_KEYS, UNFIT_SHEET, WORN,
@@ -97,7 +102,7 @@ fn number(a: Words) -> u64 {
 // ---- The key register ----
 
 /// A register of t words.
-trait Register: Copy {
+pub trait Register: Copy {
     fn of_key(key: &[u8]) -> Self;
     fn forward(self) -> Self;
     fn backward(self) -> Self;
@@ -266,25 +271,7 @@ fn decryption_round<R: Register>((register, a): State<R>, r: usize) -> State<R> 
     (next, xor(mixed(&DECRYPTING, 2, a), key))
 }
 
-#[inline(always)]
-fn encrypt<R: Register>(key: R, block: u64) -> u64 {
-    let mut state = encryption_start(key, block);
-    for r in 1..13 {
-        state = encryption_round(state, r);
-    }
-    number(phi(state.1))
-}
-
-#[inline(always)]
-fn decrypt<R: Register>(key: R, block: u64) -> u64 {
-    let mut state = decryption_start(key, block);
-    for r in 1..13 {
-        state = decryption_round(state, r);
-    }
-    number(phi(state.1))
-}
-
-/// The twelve rounds written out, which the compiler doesn't do by itself.
+/// The rounds written out, which the compiler doesn't do by itself.
 macro_rules! unrolled {
     ($round:ident, $start:expr) => {{
         let state = $round($round($round($round($start, 1), 2), 3), 4);
@@ -293,16 +280,100 @@ macro_rules! unrolled {
     }};
 }
 
-#[inline(always)]
-fn encrypt_unrolled<R: Register>(key: R, block: u64) -> u64 {
-    let state = unrolled!(encryption_round, encryption_start(key, block));
-    number(phi(state.1))
+/// How the rounds and the blocks are gone through.
+pub trait Style {
+    fn encrypt<R: Register>(key: R, block: u64) -> u64;
+    fn decrypt<R: Register>(key: R, block: u64) -> u64;
+    /// CBC of a field, from the block that its first is chained to.
+    fn decrypt_field<R: Register>(key: R, before: u64, field: &[u8], window: &mut [u8]);
+    /// Whether length and zeros of a written mark, its bytes 4 to 7, are fit.
+    fn lengths_fit(rest: u32) -> bool;
 }
 
+pub struct Looped;
+pub struct SameIdeas;
+
+impl Style for Looped {
+    #[inline(always)]
+    fn encrypt<R: Register>(key: R, block: u64) -> u64 {
+        let mut state = encryption_start(key, block);
+        for r in 1..13 {
+            state = encryption_round(state, r);
+        }
+        number(phi(state.1))
+    }
+
+    #[inline(always)]
+    fn decrypt<R: Register>(key: R, block: u64) -> u64 {
+        let mut state = decryption_start(key, block);
+        for r in 1..13 {
+            state = decryption_round(state, r);
+        }
+        number(phi(state.1))
+    }
+
+    #[inline(always)]
+    fn decrypt_field<R: Register>(key: R, mut before: u64, field: &[u8], window: &mut [u8]) {
+        for (block, out) in field.chunks_exact(8).zip(window.chunks_exact_mut(8)) {
+            let sealed = load(block);
+            out.copy_from_slice(&(Self::decrypt(key, sealed) ^ before).to_be_bytes());
+            before = sealed;
+        }
+    }
+
+    #[inline(always)]
+    fn lengths_fit(rest: u32) -> bool {
+        (rest >> 16) as u16 <= FIELD as u16 && rest as u16 == 0
+    }
+}
+
+impl Style for SameIdeas {
+    #[inline(always)]
+    fn encrypt<R: Register>(key: R, block: u64) -> u64 {
+        let state = unrolled!(encryption_round, encryption_start(key, block));
+        number(phi(state.1))
+    }
+
+    #[inline(always)]
+    fn decrypt<R: Register>(key: R, block: u64) -> u64 {
+        let state = unrolled!(decryption_round, decryption_start(key, block));
+        number(phi(state.1))
+    }
+
+    #[inline(always)]
+    fn decrypt_field<R: Register>(key: R, mut before: u64, field: &[u8], window: &mut [u8]) {
+        let (fours, rest) = field.split_at(field.len() / 32 * 32);
+        let (four_outs, rest_out) = window.split_at_mut(fours.len());
+        for (four, out) in fours.chunks_exact(32).zip(four_outs.chunks_exact_mut(32)) {
+            let sealed: [u64; 4] = from_fn(|i| load(&four[8 * i..]));
+            let blocks = decrypt_four(key, sealed);
+            for i in 0..4 {
+                let plain = blocks[i] ^ if i == 0 { before } else { sealed[i - 1] };
+                out[8 * i..][..8].copy_from_slice(&plain.to_be_bytes());
+            }
+            before = sealed[3];
+        }
+        Looped::decrypt_field(key, before, rest, rest_out);
+    }
+
+    #[inline(always)]
+    fn lengths_fit(rest: u32) -> bool {
+        rest <= (FIELD as u32) << 16 && rest as u16 == 0
+    }
+}
+
+/// Four blocks decrypted in one walk of the register.
 #[inline(always)]
-fn decrypt_unrolled<R: Register>(key: R, block: u64) -> u64 {
-    let state = unrolled!(decryption_round, decryption_start(key, block));
-    number(phi(state.1))
+fn decrypt_four<R: Register>(key: R, blocks: [u64; 4]) -> [u64; 4] {
+    let mut register = key.backward_start();
+    let first = phi(round_key(register, CONSTANTS[12]));
+    let mut states = blocks.map(|block| xor(words(block), first));
+    for r in 1..13 {
+        register = register.backward();
+        let key = phi(round_key(register, CONSTANTS[12 - r]));
+        states = states.map(|a| xor(mixed(&DECRYPTING, 2, a), key));
+    }
+    states.map(|a| number(phi(a)))
 }
 
 /// The number of a block's 8 bytes.
@@ -316,38 +387,36 @@ fn load(bytes: &[u8]) -> u64 {
 /// One of the three instances of a function over registers, by the key's
 /// length; else the refusal.
 macro_rules! by_key_length {
-    ($length:expr, $function:ident($($argument:expr),*), $wrong:expr) => {
+    ($style:ident, $length:expr, $function:ident($($argument:expr),*), $wrong:expr) => {
         match $length {
-            8 => $function::<Four>($($argument),*),
-            12 => $function::<Six>($($argument),*),
-            16 => $function::<Eight>($($argument),*),
+            8 => $function::<$style, Four>($($argument),*),
+            12 => $function::<$style, Six>($($argument),*),
+            16 => $function::<$style, Eight>($($argument),*),
             _ => $wrong,
         }
     };
 }
 
-/// A block call over one of the four functions above.
+/// A block call over one of a style's functions.
 macro_rules! block_call {
     ($name:ident, $function:ident) => {
-        pub fn $name(key: &[u8], block: &[u8], out: &mut [u8]) -> Answer {
-            fn whole<R: Register>(key: &[u8], block: &[u8], out: &mut [u8]) -> Answer {
+        pub fn $name<S: Style>(key: &[u8], block: &[u8], out: &mut [u8]) -> Answer {
+            fn whole<S: Style, R: Register>(key: &[u8], block: &[u8], out: &mut [u8]) -> Answer {
                 if block.len() != 8 || out.len() != 8 {
                     return Answer::refused(WRONG_SPAN);
                 }
-                let result = $function(R::of_key(key), load(block));
+                let result = S::$function(R::of_key(key), load(block));
                 out.copy_from_slice(&result.to_be_bytes());
                 Answer::accepted(0)
             }
             let wrong = Answer::refused(WRONG_KEY);
-            by_key_length!(key.len(), whole(key, block, out), wrong)
+            by_key_length!(S, key.len(), whole(key, block, out), wrong)
         }
     };
 }
 
 block_call!(encrypt_block, encrypt);
 block_call!(decrypt_block, decrypt);
-block_call!(encrypt_block_unrolled, encrypt_unrolled);
-block_call!(decrypt_block_unrolled, decrypt_unrolled);
 
 // ---- CMAC ----
 
@@ -358,12 +427,12 @@ fn doubled(x: u64) -> u64 {
 
 /// CMAC of a message, `c` being the chain before it.
 #[inline(always)]
-fn cmac_from<R: Register>(key: R, mut c: u64, message: &[u8]) -> u64 {
-    let k1 = doubled(encrypt(key, 0));
+fn cmac_from<S: Style, R: Register>(key: R, mut c: u64, message: &[u8]) -> u64 {
+    let k1 = doubled(S::encrypt(key, 0));
     // The last block has 1 to 8 bytes; only that of the empty message has 0.
     let (front, last) = message.split_at(message.len().saturating_sub(1) / 8 * 8);
     for block in front.chunks_exact(8) {
-        c = encrypt(key, c ^ load(block));
+        c = S::encrypt(key, c ^ load(block));
     }
     let m_n = if last.len() == 8 {
         k1 ^ load(last)
@@ -373,19 +442,20 @@ fn cmac_from<R: Register>(key: R, mut c: u64, message: &[u8]) -> u64 {
         padded[last.len()] = 0x80;
         doubled(k1) ^ u64::from_be_bytes(padded)
     };
-    encrypt(key, c ^ m_n)
+    S::encrypt(key, c ^ m_n)
 }
 
-pub fn cmac(key: &[u8], message: &[u8], out: &mut [u8]) -> Answer {
-    fn whole<R: Register>(key: &[u8], message: &[u8], out: &mut [u8]) -> Answer {
+pub fn cmac<S: Style>(key: &[u8], message: &[u8], out: &mut [u8]) -> Answer {
+    fn whole<S: Style, R: Register>(key: &[u8], message: &[u8], out: &mut [u8]) -> Answer {
         if out.len() != 8 {
             return Answer::refused(WRONG_SPAN);
         }
-        let mac = cmac_from(R::of_key(key), 0, message);
+        let mac = cmac_from::<S, R>(R::of_key(key), 0, message);
         out.copy_from_slice(&mac.to_be_bytes());
         Answer::accepted(0)
     }
     by_key_length!(
+        S,
         key.len(),
         whole(key, message, out),
         Answer::refused(WRONG_KEY)
@@ -401,6 +471,28 @@ struct Header {
     n: usize,
     t: usize,
     w: u32,
+    /// The bytes before the marks.
+    bytes: usize,
+}
+
+impl Header {
+    /// Where a slot's mark starts.
+    fn mark(&self, slot: usize) -> usize {
+        self.bytes + 16 * slot
+    }
+
+    /// Where a slot's field starts.
+    fn field(&self, slot: usize) -> usize {
+        self.mark(self.n) + FIELD * slot
+    }
+}
+
+/// The bytes of an edition's header; none for an unknown edition.
+fn header_bytes(edition: u8) -> Option<usize> {
+    match edition {
+        1 => Some(8),
+        _ => None,
+    }
 }
 
 /// The bytes are gathered and tested once: a scan that stops early is slower.
@@ -409,50 +501,48 @@ fn all_zero(bytes: &[u8]) -> bool {
 }
 
 /// The layout test.
-fn fit_header(sheet: &[u8]) -> Option<Header> {
+fn fit_header<S: Style>(sheet: &[u8]) -> Option<Header> {
     let head: &[u8; 8] = sheet.first_chunk()?;
     let n = usize::from(u16::from_be_bytes([head[0], head[1]]));
     let t = usize::from(head[2]);
     let w = u32::from_be_bytes([head[4], head[5], head[6], head[7]]);
-    let sized = (1..=256).contains(&n)
-        && matches!(t, 4 | 6 | 8)
-        && head[3] == 1
-        && sheet.len() == 8 + 208 * n;
+    let bytes = header_bytes(head[3])?;
+    let sized = (1..=256).contains(&n) && matches!(t, 4 | 6 | 8) && sheet.len() == bytes + 208 * n;
     if !sized {
         return None;
     }
-    let (marks, fields) = sheet[8..].split_at(16 * n);
+    let (marks, fields) = sheet[bytes..].split_at(16 * n);
     let mut slots = marks.chunks_exact(16).zip(fields.chunks_exact(FIELD));
     slots
-        .all(|(mark, field)| slot_fits(w, mark, field))
-        .then_some(Header { n, t, w })
+        .all(|(mark, field)| slot_fits::<S>(w, mark, field))
+        .then_some(Header { n, t, w, bytes })
 }
 
 /// A write number of 0 leaves only a blank slot, any other only a written one.
 #[inline(always)]
-fn slot_fits(w: u32, mark: &[u8], field: &[u8]) -> bool {
+fn slot_fits<S: Style>(w: u32, mark: &[u8], field: &[u8]) -> bool {
     let numbers = load(mark);
     let write_number = (numbers >> 32) as u32;
     if write_number == 0 {
         all_zero(mark) && all_zero(field)
     } else {
-        write_number <= w && (numbers >> 16) as u16 <= FIELD as u16 && numbers as u16 == 0
+        write_number <= w && S::lengths_fit(numbers as u32)
     }
 }
 
-pub fn fit(sheet: &[u8]) -> bool {
-    fit_header(sheet).is_some()
+pub fn fit<S: Style>(sheet: &[u8]) -> bool {
+    fit_header::<S>(sheet).is_some()
 }
 
-pub fn clear(sheet: &mut [u8], slot: usize) -> Answer {
-    let Some(header) = fit_header(sheet) else {
+pub fn clear<S: Style>(sheet: &mut [u8], slot: usize) -> Answer {
+    let Some(header) = fit_header::<S>(sheet) else {
         return Answer::refused(UNFIT_SHEET);
     };
     if slot >= header.n {
         return Answer::refused(NO_SUCH_SLOT);
     }
-    sheet[8 + 16 * slot..][..16].fill(0);
-    sheet[8 + 16 * header.n + FIELD * slot..][..FIELD].fill(0);
+    sheet[header.mark(slot)..][..16].fill(0);
+    sheet[header.field(slot)..][..FIELD].fill(0);
     Answer::accepted(0)
 }
 
@@ -475,11 +565,11 @@ fn numbers(write_number: u32, slot: usize, last: u16) -> u64 {
 
 /// The check: CMAC of the numbers and the field, 25 blocks.
 #[inline(always)]
-fn check<R: Register>(key: R, numbers: u64, field: &[u8]) -> u64 {
-    cmac_from(key, encrypt(key, numbers), field)
+fn check<S: Style, R: Register>(key: R, numbers: u64, field: &[u8]) -> u64 {
+    cmac_from::<S, R>(key, S::encrypt(key, numbers), field)
 }
 
-pub fn write(
+pub fn write<S: Style>(
     sealing_key: &[u8],
     checking_key: &[u8],
     sheet: &mut [u8],
@@ -489,7 +579,7 @@ pub fn write(
     if let Some(number) = key_fault(sealing_key, checking_key) {
         return Answer::refused(number);
     }
-    let Some(header) = fit_header(sheet) else {
+    let Some(header) = fit_header::<S>(sheet) else {
         return Answer::refused(UNFIT_SHEET);
     };
     if sealing_key.len() != 2 * header.t {
@@ -505,14 +595,15 @@ pub fn write(
         return Answer::refused(WORN);
     };
     sheet[4..8].copy_from_slice(&write_number.to_be_bytes());
-    let (head, fields) = sheet.split_at_mut(8 + 16 * header.n);
-    let mark = &mut head[8 + 16 * slot..][..16];
+    let (head, fields) = sheet.split_at_mut(header.field(0));
+    let mark = &mut head[header.mark(slot)..][..16];
     let field = &mut fields[FIELD * slot..][..FIELD];
     let mut plain = [0; FIELD];
     plain[..caption.len()].copy_from_slice(caption);
     let length = caption.len() as u16;
     let (keys, place) = ((sealing_key, checking_key), (write_number, slot, length));
     by_key_length!(
+        S,
         sealing_key.len(),
         put_slot(keys, place, &plain, mark, field),
         ()
@@ -520,7 +611,7 @@ pub fn write(
     Answer::accepted(0)
 }
 
-fn put_slot<R: Register>(
+fn put_slot<S: Style, R: Register>(
     (sealing_key, checking_key): (&[u8], &[u8]),
     (write_number, slot, length): (u32, usize, u16),
     plain: &[u8; FIELD],
@@ -528,19 +619,19 @@ fn put_slot<R: Register>(
     field: &mut [u8],
 ) {
     let key = R::of_key(sealing_key);
-    let mut chain = encrypt(key, numbers(write_number, slot, 0));
+    let mut chain = S::encrypt(key, numbers(write_number, slot, 0));
     for (block, out) in plain.chunks_exact(8).zip(field.chunks_exact_mut(8)) {
-        chain = encrypt(key, chain ^ load(block));
+        chain = S::encrypt(key, chain ^ load(block));
         out.copy_from_slice(&chain.to_be_bytes());
     }
     let checked = numbers(write_number, slot, length);
-    let check = check(R::of_key(checking_key), checked, field);
+    let check = check::<S, R>(R::of_key(checking_key), checked, field);
     mark[0..4].copy_from_slice(&write_number.to_be_bytes());
     mark[4..8].copy_from_slice(&(u32::from(length) << 16).to_be_bytes());
     mark[8..16].copy_from_slice(&check.to_be_bytes());
 }
 
-pub fn read(
+pub fn read<S: Style>(
     sealing_key: &[u8],
     checking_key: &[u8],
     sheet: &[u8],
@@ -554,7 +645,7 @@ pub fn read(
     if window.len() != FIELD {
         return Answer::refused(WRONG_SPAN);
     }
-    let Some(header) = fit_header(sheet) else {
+    let Some(header) = fit_header::<S>(sheet) else {
         return Answer::refused(UNFIT_SHEET);
     };
     if sealing_key.len() != 2 * header.t {
@@ -563,17 +654,18 @@ pub fn read(
     if slot >= header.n {
         return Answer::refused(NO_SUCH_SLOT);
     }
-    let mark = &sheet[8 + 16 * slot..][..16];
-    let field = &sheet[8 + 16 * header.n + FIELD * slot..][..FIELD];
+    let mark = &sheet[header.mark(slot)..][..16];
+    let field = &sheet[header.field(slot)..][..FIELD];
     let keys = (sealing_key, checking_key);
     by_key_length!(
+        S,
         sealing_key.len(),
         shown_slot(keys, slot, mark, field, window),
         Answer::refused(WRONG_KEY)
     )
 }
 
-fn shown_slot<R: Register>(
+fn shown_slot<S: Style, R: Register>(
     (sealing_key, checking_key): (&[u8], &[u8]),
     slot: usize,
     mark: &[u8],
@@ -586,16 +678,12 @@ fn shown_slot<R: Register>(
         return Answer::refused(BLANK);
     }
     let checked = numbers(write_number, slot, length);
-    if check(R::of_key(checking_key), checked, field) != load(&mark[8..]) {
+    if check::<S, R>(R::of_key(checking_key), checked, field) != load(&mark[8..]) {
         return Answer::refused(ALTERED);
     }
     let key = R::of_key(sealing_key);
-    let mut before = encrypt(key, numbers(write_number, slot, 0));
-    for (block, out) in field.chunks_exact(8).zip(window.chunks_exact_mut(8)) {
-        let sealed = load(block);
-        out.copy_from_slice(&(decrypt(key, sealed) ^ before).to_be_bytes());
-        before = sealed;
-    }
+    let before = S::encrypt(key, numbers(write_number, slot, 0));
+    S::decrypt_field(key, before, field, window);
     if !all_zero(&window[usize::from(length)..]) {
         window.fill(0);
         return Answer::refused(ALTERED);

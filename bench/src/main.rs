@@ -1,17 +1,27 @@
-//! Prints how fast the library is beside the baseline and the second program.
+//! Prints how fast the library is beside the baseline, beside the same ideas in
+//! Rust and beside the second program.
 
 mod agreement;
 mod baseline;
+mod instructions;
+mod meter;
 mod timing;
 
+use baseline::{Looped, SameIdeas};
+use differential::edition::Edition;
 use differential::library;
 use differential::random::Random;
-use differential::sheets::{blank_sheet, set_last_number, Keys, CLASSES, FIELD};
+use differential::sheets::{set_last_number, Keys, CLASSES, FIELD};
+use meter::{figure, Aims, Meter};
 use reference::Answer;
 use std::hint::black_box;
-use timing::{timed, Samples, Timed, ROUNDS, SAMPLE};
+use timing::{timed, Timed, ROUNDS, SAMPLE};
 
 fn main() {
+    if std::env::args().nth(1).as_deref() == Some(instructions::COUNT) {
+        measure(&mut Meter::counting());
+        return;
+    }
     let compared = agreement::check_baseline();
     println!(
         "\
@@ -19,118 +29,141 @@ The baseline was compared with the second program first: {compared} calls agree.
 
 The calls of a row are sampled in turn, round by round: {ROUNDS} rounds, samples of about
 {SAMPLE:?}. A figure is the median of a call's samples, a ratio the median over the
-rounds of library / baseline. No output feeds the next call; arguments and results
-go through black_box; the buffers are warm. No speed is asserted."
+rounds of library / baseline, or library / same ideas. No output feeds the next call;
+arguments and results go through black_box; the buffers are warm. No speed is asserted.
+The same ideas in Rust: the baseline with its rounds written out, four blocks decrypted
+in one walk of the register, and a mark's last bytes compared as one number.
+Instructions: the library's, and their part of the baseline's, by valgrind."
     );
+    let mut meter = Meter::timing();
+    measure(&mut meter);
+    meter.say_aims();
+}
+
+fn measure(meter: &mut Meter) {
     let mut random = Random::of_part(901);
-    blocks(&mut random);
-    cmacs(&mut random);
-    sheets(&mut random);
+    blocks(meter, &mut random);
+    cmacs(meter, &mut random);
+    sheets(meter, &mut random);
 }
 
 // ---- One block ----
 
-fn blocks(random: &mut Random) {
-    head(
+fn blocks(meter: &mut Meter, random: &mut Random) {
+    meter.head(
         "One block: ns for each block",
         "\
-Path number 0xffff takes the word path in every round, path number 0 the nibble
-path. The library's path without a choice in each round is that of the tables below.
-The baseline has its rounds in a loop; unrolled is the same with all twelve written
-out, which the compiler doesn't do by itself.",
-        "Call | Key bits | Library, 0xffff | Library, 0 | Baseline | Unrolled | Ratio, 0xffff | Ratio, 0",
+Path number 0xffff takes the word path in every round, path number 0 the nibble path,
+0x0555 each by turns.",
+        "Call | Key bits | Library, 0xffff | Baseline | Same ideas in Rust | Ratio | To same ideas | Instructions | Library, 0 | Instructions | Library, 0x0555 | Instructions",
     );
     for (name, calls) in BLOCK_CALLS {
         for t in CLASSES {
             let (key, block) = (random.bytes(2 * t), random.block());
-            let samples = Samples::of(block_calls(calls, &key, &block));
-            row(&[
+            let row = meter.row(block_calls(calls, &key, &block));
+            meter.aim(Aims::Blocks, row.ratio(0, 1));
+            meter.print(&[
                 name,
                 &(16 * t).to_string(),
-                &figure(samples.nanoseconds(0)),
-                &figure(samples.nanoseconds(1)),
-                &figure(samples.nanoseconds(2)),
-                &figure(samples.nanoseconds(3)),
-                &ratio(&samples, 0, 2),
-                &ratio(&samples, 1, 2),
+                &figure(row.nanoseconds(0)),
+                &figure(row.nanoseconds(1)),
+                &figure(row.nanoseconds(2)),
+                &row.ratio_cell(0, 1),
+                &row.ratio_cell(0, 2),
+                &row.instructions(0, 1),
+                &figure(row.nanoseconds(3)),
+                &row.instructions(3, 1),
+                &figure(row.nanoseconds(4)),
+                &row.instructions(4, 1),
             ]);
         }
     }
 }
 
-/// The library's call, the baseline's and the unrolled baseline's.
-type BlockCalls = (
-    fn(&[u8], &[u8], u16, &mut [u8]) -> Answer,
-    [fn(&[u8], &[u8], &mut [u8]) -> Answer; 2],
-);
+type LibraryCall = fn(&[u8], &[u8], u16, &mut [u8]) -> Answer;
+type BaselineCall = fn(&[u8], &[u8], &mut [u8]) -> Answer;
+
+/// The library's call, and the baseline's in both styles.
+type BlockCalls = (LibraryCall, [BaselineCall; 2]);
 
 const BLOCK_CALLS: [(&str, BlockCalls); 2] = [
     (
         "encrypt",
         (
             library::encrypt_block,
-            [baseline::encrypt_block, baseline::encrypt_block_unrolled],
+            [
+                baseline::encrypt_block::<Looped>,
+                baseline::encrypt_block::<SameIdeas>,
+            ],
         ),
     ),
     (
         "decrypt",
         (
             library::decrypt_block,
-            [baseline::decrypt_block, baseline::decrypt_block_unrolled],
+            [
+                baseline::decrypt_block::<Looped>,
+                baseline::decrypt_block::<SameIdeas>,
+            ],
         ),
     ),
 ];
 
-fn block_calls<'a>(calls: BlockCalls, key: &'a [u8], block: &'a [u8]) -> Vec<Timed<'a>> {
-    let (by_library, by_baseline) = calls;
-    let mut timed_calls = Vec::new();
-    for path in [0xffff, 0] {
+fn block_calls<'a>((ours, theirs): BlockCalls, key: &'a [u8], block: &'a [u8]) -> Vec<Timed<'a>> {
+    let by_path = |path: u16| {
         let mut out = [0; 8];
-        timed_calls.push(timed(move || {
+        timed(move || {
             let (key, block) = black_box((key, block));
-            by_library(key, block, black_box(path), black_box(&mut out))
-        }));
-    }
-    for call in by_baseline {
+            ours(key, block, black_box(path), black_box(&mut out))
+        })
+    };
+    let mut calls = vec![by_path(0xffff)];
+    for call in theirs {
         let mut out = [0; 8];
-        timed_calls.push(timed(move || {
+        calls.push(timed(move || {
             let (key, block) = black_box((key, block));
             call(key, block, black_box(&mut out))
         }));
     }
-    timed_calls
+    calls.extend([by_path(0), by_path(0x0555)]);
+    calls
 }
 
 // ---- CMAC ----
 
-fn cmacs(random: &mut Random) {
-    head(
+fn cmacs(meter: &mut Meter, random: &mut Random) {
+    meter.head(
         "CMAC: ns for each byte of the message",
         "\
 The library encrypts here by its path of words alone, as it does in sheets.",
-        "Message bytes | Key bits | Library | Baseline | Ratio",
+        "Message bytes | Key bits | Library | Baseline | Same ideas in Rust | Ratio | To same ideas | Instructions",
     );
+    let calls: [BaselineCall; 3] = [
+        library::cmac,
+        baseline::cmac::<Looped>,
+        baseline::cmac::<SameIdeas>,
+    ];
     for length in [192, 65_536] {
         for t in CLASSES {
             let (key, message) = (random.bytes(2 * t), random.bytes(length));
             let (key, message) = (&key[..], &message[..]);
-            let (mut our_out, mut their_out) = ([0; 8], [0; 8]);
-            let samples = Samples::of(vec![
+            let row = meter.row(Vec::from(calls.map(|call| {
+                let mut out = [0; 8];
                 timed(move || {
                     let (key, message) = black_box((key, message));
-                    library::cmac(key, message, black_box(&mut our_out))
-                }),
-                timed(move || {
-                    let (key, message) = black_box((key, message));
-                    baseline::cmac(key, message, black_box(&mut their_out))
-                }),
-            ]);
-            row(&[
+                    call(key, message, black_box(&mut out))
+                })
+            })));
+            meter.aim(Aims::Cmac, row.ratio(0, 1));
+            meter.print(&[
                 &length.to_string(),
                 &(16 * t).to_string(),
-                &figure(samples.nanoseconds(0) / length as f64),
-                &figure(samples.nanoseconds(1) / length as f64),
-                &ratio(&samples, 0, 1),
+                &figure(row.nanoseconds(0) / length as f64),
+                &figure(row.nanoseconds(1) / length as f64),
+                &figure(row.nanoseconds(2) / length as f64),
+                &row.ratio_cell(0, 1),
+                &row.ratio_cell(0, 2),
+                &row.instructions(0, 1),
             ]);
         }
     }
@@ -141,8 +174,8 @@ The library encrypts here by its path of words alone, as it does in sheets.",
 /// A call on the last slot of a sheet.
 type SheetCalls = fn(&Keys, &[u8], usize) -> Vec<Timed<'static>>;
 
-fn sheets(random: &mut Random) {
-    head(
+fn sheets(meter: &mut Meter, random: &mut Random) {
+    meter.head(
         "Sheets: µs for each call",
         "\
 128-bit keys. Full: every slot holds a caption of 192 bytes; blank: none does. A read
@@ -150,31 +183,35 @@ opens, a write seals and a clear empties the last slot, each after the layout te
 of the whole sheet. CBC has no call of its own: a write is 25 encryptions by CBC,
 26 by CMAC and the layout test, a read the same with 24 decryptions. The layout
 test alone is a clear of slot n, which is refused after that test.",
-        "Call | Sheet | Slots | Library | Baseline | Ratio | Second program",
+        "Call | Sheet | Slots | Library | Baseline | Same ideas in Rust | Ratio | To same ideas | Instructions | Second program",
     );
-    let calls: [(&str, &str, SheetCalls); 5] = [
-        ("read", "full", reads),
-        ("write", "full", writes),
-        ("clear", "full", clears),
-        ("layout test", "full", layout_tests),
-        ("layout test", "blank", layout_tests),
+    let calls: [(&str, &str, SheetCalls, Aims); 5] = [
+        ("read", "full", reads, Aims::Reads),
+        ("write", "full", writes, Aims::Writes),
+        ("clear", "full", clears, Aims::None),
+        ("layout test", "full", layout_tests, Aims::FullLayout),
+        ("layout test", "blank", layout_tests, Aims::BlankLayout),
     ];
-    for (name, state, calls) in calls {
+    for (name, state, calls, aim) in calls {
         for n in [1, 16, 256] {
-            let keys = Keys::unlike(random, 8);
-            let mut sheet = blank_sheet(n, 8);
+            let keys = Keys::own(random, Edition::BLANKED, 8);
+            let mut sheet = Edition::BLANKED.blank_sheet(n, 8);
             if state == "full" {
                 fill(random, &keys, &mut sheet, n);
             }
-            let samples = Samples::of(calls(&keys, &sheet, n));
-            row(&[
+            let row = meter.row(calls(&keys, &sheet, n));
+            meter.aim(aim, row.ratio(0, 1));
+            meter.print(&[
                 name,
                 state,
                 &n.to_string(),
-                &figure(samples.nanoseconds(0) / 1000.0),
-                &figure(samples.nanoseconds(1) / 1000.0),
-                &ratio(&samples, 0, 1),
-                &figure(samples.nanoseconds(2) / 1000.0),
+                &figure(row.nanoseconds(0) / 1000.0),
+                &figure(row.nanoseconds(1) / 1000.0),
+                &figure(row.nanoseconds(2) / 1000.0),
+                &row.ratio_cell(0, 1),
+                &row.ratio_cell(0, 2),
+                &row.instructions(0, 1),
+                &figure(row.nanoseconds(3) / 1000.0),
             ]);
         }
     }
@@ -191,31 +228,41 @@ fn fill(random: &mut Random, keys: &Keys, sheet: &mut [u8], n: usize) {
 }
 
 fn reads(keys: &Keys, sheet: &[u8], n: usize) -> Vec<Timed<'static>> {
-    [library::read, baseline::read, reference::read]
-        .map(|read| {
-            let (keys, sheet) = (keys.clone(), sheet.to_vec());
-            let mut window = [0; FIELD];
-            timed(move || {
-                let (keys, sheet) = black_box((&keys, &sheet));
-                let window = black_box(&mut window);
-                read(&keys.sealing, &keys.checking, sheet, n - 1, window)
-            })
+    [
+        library::read,
+        baseline::read::<Looped>,
+        baseline::read::<SameIdeas>,
+        reference::read,
+    ]
+    .map(|read| {
+        let (keys, sheet) = (keys.clone(), sheet.to_vec());
+        let mut window = [0; FIELD];
+        timed(move || {
+            let (keys, sheet) = black_box((&keys, &sheet));
+            let window = black_box(&mut window);
+            read(&keys.sealing, &keys.checking, sheet, n - 1, window)
         })
-        .into()
+    })
+    .into()
 }
 
 fn writes(keys: &Keys, sheet: &[u8], n: usize) -> Vec<Timed<'static>> {
     let caption = [0x41; FIELD];
-    [library::write, baseline::write, reference::write]
-        .map(|write| {
-            let (keys, mut sheet) = (keys.clone(), sheet.to_vec());
-            timed(move || {
-                let (keys, sheet) = black_box((&keys, &mut sheet));
-                let caption = black_box(&caption);
-                write(&keys.sealing, &keys.checking, sheet, n - 1, caption)
-            })
+    [
+        library::write,
+        baseline::write::<Looped>,
+        baseline::write::<SameIdeas>,
+        reference::write,
+    ]
+    .map(|write| {
+        let (keys, mut sheet) = (keys.clone(), sheet.to_vec());
+        timed(move || {
+            let (keys, sheet) = black_box((&keys, &mut sheet));
+            let caption = black_box(&caption);
+            write(&keys.sealing, &keys.checking, sheet, n - 1, caption)
         })
-        .into()
+    })
+    .into()
 }
 
 /// From the second time on the last slot is blank already, which is the same
@@ -229,36 +276,15 @@ fn layout_tests(_: &Keys, sheet: &[u8], n: usize) -> Vec<Timed<'static>> {
 }
 
 fn clears_of(sheet: &[u8], slot: usize) -> Vec<Timed<'static>> {
-    [library::clear, baseline::clear, reference::clear]
-        .map(|clear| {
-            let mut sheet = sheet.to_vec();
-            timed(move || clear(black_box(&mut sheet), black_box(slot)))
-        })
-        .into()
-}
-
-// ---- Tables ----
-
-fn head(title: &str, notes: &str, columns: &str) {
-    let rule = "---|".repeat(columns.split('|').count());
-    println!("\n## {title}\n\n{notes}\n\n| {columns} |\n|{rule}");
-}
-
-fn row(cells: &[&str]) {
-    println!("| {} |", cells.join(" | "));
-}
-
-/// Three digits that count, or as many as three decimals leave.
-fn figure(value: f64) -> String {
-    let decimals = match value {
-        0.0..1.0 => 3,
-        1.0..10.0 => 2,
-        10.0..100.0 => 1,
-        _ => 0,
-    };
-    format!("{value:.decimals$}")
-}
-
-fn ratio(samples: &Samples, library: usize, baseline: usize) -> String {
-    format!("{:.2}", samples.ratio(library, baseline))
+    [
+        library::clear,
+        baseline::clear::<Looped>,
+        baseline::clear::<SameIdeas>,
+        reference::clear,
+    ]
+    .map(|clear| {
+        let mut sheet = sheet.to_vec();
+        timed(move || clear(black_box(&mut sheet), black_box(slot)))
+    })
+    .into()
 }

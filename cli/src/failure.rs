@@ -1,31 +1,45 @@
 //! What can go wrong, with its exit status and its message.
 
+use crate::shown::shown;
 use captions::Refusal;
+use std::fmt::Display;
 use std::io;
 use std::path::Path;
 
-/// Exit statuses beside those of the refusals, which are 1 to 10: the numbers
-/// that sysexits.h gives to a wrong command line, wrong data and failed input
-/// or output.
+/// Exit statuses beside those of the refusals, which are 1 to 10 and may come
+/// to 16. Most are the numbers that sysexits.h gives to a wrong command line,
+/// wrong data, missing input, failed input or output and "try again later".
 const WRONG_USAGE: u8 = 64;
 const WRONG_DATA: u8 = 65;
+const NO_INPUT: u8 = 66;
 const FAILED_FILE: u8 = 74;
+const LOCKED: u8 = 75;
+/// Past the last number of sysexits.h, so that it is nobody's failure.
+const NOT_FLUSHED: u8 = 79;
 
 pub enum Failure {
     /// The library refused.
     Refused(Refusal),
+    /// The library refused what stands at a place, which the text names.
+    RefusedAt(String, Refusal),
     /// The command line is wrong; the text is to be shown whole.
     Usage(String),
-    /// A file of keys isn't two lines of hex digits.
-    Keys(String),
+    /// A file of keys or a table isn't in its form.
+    Data(String),
+    /// There is no caption or no table.
+    NoInput(String),
     /// A file, standard input or standard output failed.
     File(String),
+    /// The folder stayed locked.
+    Locked(String),
+    /// The change is done, but the folder can't be flushed.
+    NotFlushed(String),
 }
 
 impl Failure {
     /// A file that failed, by its name.
-    pub fn of_file(path: &Path, error: impl std::fmt::Display) -> Failure {
-        Failure::File(format!("{}: {error}", path.display()))
+    pub fn of_file(path: &Path, error: impl Display) -> Failure {
+        Failure::File(format!("{}: {error}", shown(path)))
     }
 
     pub fn of_standard_input(error: io::Error) -> Failure {
@@ -39,21 +53,30 @@ impl Failure {
     /// The exit status.
     pub fn status(&self) -> u8 {
         match self {
-            Failure::Refused(refusal) => refusal.number(),
+            Failure::Refused(refusal) | Failure::RefusedAt(_, refusal) => refusal.number(),
             Failure::Usage(_) => WRONG_USAGE,
-            Failure::Keys(_) => WRONG_DATA,
+            Failure::Data(_) => WRONG_DATA,
+            Failure::NoInput(_) => NO_INPUT,
             Failure::File(_) => FAILED_FILE,
+            Failure::Locked(_) => LOCKED,
+            Failure::NotFlushed(_) => NOT_FLUSHED,
         }
     }
 
-    /// The lines for standard error. A refusal's is its number and word alone,
-    /// so that a script can take it as it is.
+    /// The lines for standard error. A refusal's last line is its number and
+    /// word alone, so that a script can take it as it is.
     pub fn message(&self) -> String {
         match self {
             Failure::Refused(refusal) => format!("{} {refusal}\n", refusal.number()),
-            Failure::Usage(text) | Failure::Keys(text) | Failure::File(text) => {
-                format!("captions: {text}\n")
+            Failure::RefusedAt(place, refusal) => {
+                format!("captions: {place}\n{} {refusal}\n", refusal.number())
             }
+            Failure::Usage(text)
+            | Failure::Data(text)
+            | Failure::NoInput(text)
+            | Failure::File(text)
+            | Failure::Locked(text)
+            | Failure::NotFlushed(text) => format!("captions: {text}\n"),
         }
     }
 }

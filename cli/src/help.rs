@@ -1,55 +1,43 @@
-//! The help texts. Each begins with its usage line and an empty line.
+//! The help texts, which are the manual too: the man page and the completions
+//! are made from what `captions help` and `captions help COMMAND` print, and
+//! the command line is read by the same table of options.
+//!
+//! Every text has one form: the usage, an empty line, paragraphs, and sections.
+//! A section begins with a line that ends in a colon; its items are indented by
+//! two blanks, term and text two blanks or more apart, and go on in lines that
+//! are indented further. A line of a paragraph's own, indented by four blanks,
+//! is an example.
 
-pub const CAPTIONS: &str = "\
-usage: captions COMMAND ...
+/// One command, as it is typed and as it is explained.
+pub struct Page {
+    pub name: &'static str,
+    /// The words that it takes, in their order.
+    pub operands: &'static [&'static str],
+    /// The options with the word that each takes, if any, and what each does.
+    pub options: &'static [(&'static str, &'static str)],
+    /// How operands and options are put together, after the command's name.
+    pub usage: &'static str,
+    /// What it does, in a few words.
+    pub summary: &'static str,
+    /// What it does, in paragraphs.
+    pub about: &'static str,
+    /// The exit statuses that it has beside those of every command.
+    pub statuses: &'static [u8],
+}
 
-Caption sheets: up to 256 sealed captions of up to 192 bytes in one file.
+const WAIT: (&str, &str) = (
+    "--wait SECONDS",
+    "wait so long for the folder's lock; 30 if not given",
+);
 
-  captions blank FILE SLOTS BITS [--force]  make a sheet of blank slots
-  captions write FILE SLOT KEYS             write the caption on standard input
-  captions read FILE SLOT KEYS              print a caption
-  captions clear FILE SLOT                  make a slot blank
-  captions list FILE                        print what each slot holds
-  captions verify FILE KEYS                 try every slot
-
-captions COMMAND --help says more. A FILE whose name begins with - is written
-./-name.
-
-SLOT is a number from 0. KEYS names a file with two lines of hex digits, the
-sealing key and the checking key: two keys of 8, 12 or 16 bytes, of one length
-and not equal. One pair of keys serves a sheet: nothing stops a write under
-another pair, and its slot is then altered to whoever reads with the first.
-
-blank, write and clear replace FILE whole or not at all: whatever happens, a
-refusal, a full disk, a kill or a power cut, FILE is the old sheet or the new
-one. The new sheet is written to .captions-new in FILE's folder, flushed and
-renamed; one that a killed command left there is removed by the next change in
-that folder. The folder is locked meanwhile: two changes at once happen one
-after the other. The file's mode is kept, and its owner and group as far as you
-may set them; a hard link to the old file stays with the old sheet. A symbolic
-link is followed and stays. Only a regular file that you may write is replaced.
-
-Exit status, with a line on standard error unless it is 0:
-   0  done
-   1  wrong key        a key isn't 8, 12 or 16 bytes, or their lengths differ;
-                       blank: BITS isn't 64, 96 or 128
-   2  twin keys        the two keys are equal
-   3  wrong span       blank: SLOTS isn't 1 to 256
-   4  unfit sheet      FILE isn't a sheet, or some rule of the layout is broken
-   5  other key class  the sheet was blanked for keys of another length
-   6  no such slot     SLOT is the number of slots or more
-   7  overlong         the caption has more than 192 bytes
-   8  worn             the sheet has had 4294967295 writes
-   9  blank            read: the slot is blank
-  10  altered          the check differs, or what was sealed isn't a caption
-  64  wrong usage
-  65  KEYS isn't two lines of hex digits
-  74  a file, standard input or standard output can't be read or written
-";
-
-pub const BLANK: &str = "\
-usage: captions blank FILE SLOTS BITS [--force]
-
+pub const PAGES: [Page; 10] = [
+    Page {
+        name: "blank",
+        operands: &["FILE", "SLOTS", "BITS"],
+        options: &[("--force", "blank a FILE that exists"), WAIT],
+        usage: "FILE SLOTS BITS [--force] [--wait SECONDS]",
+        summary: "make a sheet of blank slots",
+        about: "\
 Makes FILE a sheet of SLOTS blank slots, 1 to 256, for keys of BITS bits: 64,
 96 or 128.
 
@@ -57,45 +45,348 @@ A FILE that exists is left alone (exit status 74) unless --force is given: all
 its captions would be lost, and write numbers begin again at 1. So give a sheet
 that is blanked again new keys: the same keys, write number and slot seal from
 the same start, which shows where an old and a new caption begin alike.
-";
+",
+        statuses: &[1, 3, 75, 79],
+    },
+    Page {
+        name: "write",
+        operands: &["FILE", "SLOT", "KEYS"],
+        options: &[
+            ("--text TEXT", "the caption is TEXT"),
+            ("--file NAME", "the caption is what the file NAME holds"),
+            ("--empty", "the caption has no bytes"),
+            WAIT,
+        ],
+        usage: "FILE SLOT KEYS\n[--text TEXT | --file NAME | --empty] [--wait SECONDS]",
+        summary: "write a caption",
+        about: "\
+Writes a caption into a slot of the sheet, in place of what the slot held. The
+caption is read from standard input unless an option gives it.
 
-pub const WRITE: &str = "\
-usage: captions write FILE SLOT KEYS
+Every byte counts, a line feed at the end too: printf '%s' 'Vase' gives a
+caption without one, and so does --text. At a terminal a caption is typed, and
+Ctrl-D pressed twice ends it; Enter before that is a line feed, which is kept.
 
-Writes the caption on standard input into a slot of the sheet, in place of what
-the slot held. Every byte counts, a line feed at the end too: printf '%s' 'Vase'
-gives a caption without one. No bytes at all are a caption of length 0.
-";
-
-pub const READ: &str = "\
-usage: captions read FILE SLOT KEYS
-
+A caption of no bytes is written only where --empty is given. Input that is
+empty is taken for input that was lost, and nothing is written (exit status
+66): from a command before the pipe that failed, say, or an unset variable.
+",
+        statuses: &[1, 2, 4, 5, 6, 7, 8, 65, 66, 75, 79],
+    },
+    Page {
+        name: "read",
+        operands: &["FILE", "SLOT", "KEYS"],
+        options: &[],
+        usage: "FILE SLOT KEYS",
+        summary: "print a caption",
+        about: "\
 Prints the caption of a slot: its bytes as they were written, with no line feed
 added. A refusal prints nothing on standard output.
-";
-
-pub const CLEAR: &str = "\
-usage: captions clear FILE SLOT
-
+",
+        statuses: &[1, 2, 4, 5, 6, 9, 10, 65],
+    },
+    Page {
+        name: "clear",
+        operands: &["FILE", "SLOT"],
+        options: &[WAIT],
+        usage: "FILE SLOT [--wait SECONDS]",
+        summary: "make a slot blank",
+        about: "\
 Makes a slot blank, without keys. A blank slot stays blank.
-";
-
-pub const LIST: &str = "\
-usage: captions list FILE
-
+",
+        statuses: &[4, 6, 75, 79],
+    },
+    Page {
+        name: "list",
+        operands: &["FILE"],
+        options: &[("--json", "print one JSON object")],
+        usage: "FILE [--json]",
+        summary: "print what each slot holds",
+        about: "\
 Prints slot count, key bits and last write number, then a line for each slot:
 its number and \"blank\", or \"written\", write number and length. It needs no
 keys and tests no seal: captions verify does. A file that isn't a sheet is
 listed as \"unfit\", which is an answer: the exit status is 0.
-";
 
-pub const VERIFY: &str = "\
-usage: captions verify FILE KEYS
-
+With --json it prints an object with the members fit (true or false), slots,
+key, last and list; list has an object for each slot, with the members slot,
+state (\"blank\" or \"written\"), write and length. What a blank slot or an unfit
+sheet doesn't have is null.
+",
+        statuses: &[],
+    },
+    Page {
+        name: "verify",
+        operands: &["FILE", "KEYS"],
+        options: &[("--json", "print one JSON object")],
+        usage: "FILE KEYS [--json]",
+        summary: "try every slot",
+        about: "\
 Reads every slot and prints a line for each: its number and \"sound\" with the
 caption's length, \"blank\" or \"altered\". The last line counts them:
-slots 3 sound 1 blank 1 altered 1
+
+    slots 3 sound 1 blank 1 altered 1
 
 The exit status is 0 if no slot is altered, else 10. Keys or a sheet that can't
-be used at all are refused as by captions read, with no lines.
+be used at all are refused as by captions read, with no lines. An old sheet that
+was put back in the place of a newer one verifies as sound: compare the last
+write number with one that you noted elsewhere.
+
+With --json it prints an object with the members slots, key, last, sound, blank,
+altered and list; list has an object for each slot, with the members slot, state
+(\"sound\", \"blank\" or \"altered\"), write and length. Write number and length of a
+slot that isn't sound are null.
+",
+        statuses: &[1, 2, 4, 5, 10, 65],
+    },
+    Page {
+        name: "export",
+        operands: &["FILE", "KEYS"],
+        options: &[],
+        usage: "FILE KEYS",
+        summary: "print all captions as a table",
+        about: "\
+Prints the sheet as a table for a spreadsheet: lines of UTF-8 with a tab between
+the two columns, slot and text. The first line names them. Each slot has a line;
+a blank slot's text is empty.
+
+An altered slot has no line, so that an import of the table leaves it alone. It
+is named on standard error, and the exit status is then 10.
+
+In a text, \\t is a tab, \\n a line feed, \\r a carriage return, \\\\ a backslash,
+and \\x with two hex digits a byte, for control characters and what isn't UTF-8.
+\\& is nothing: it stands first where a spreadsheet could take the text for a
+number, a date, a formula or a quotation, and alone for a caption of no bytes.
+",
+        statuses: &[1, 2, 4, 5, 10, 65],
+    },
+    Page {
+        name: "import",
+        operands: &["FILE", "KEYS"],
+        options: &[
+            ("--dry-run", "print what would change, and change nothing"),
+            ("--clear", "make a slot blank where its text is empty"),
+            ("--file NAME", "the table is in the file NAME"),
+            WAIT,
+        ],
+        usage: "FILE KEYS [--dry-run] [--clear] [--file NAME]\n[--wait SECONDS]",
+        summary: "write the captions of a table",
+        about: "\
+Writes the captions of a table as captions export prints it, read from standard
+input: all of them in one replacement of FILE, or none. A caption that the sheet
+has already isn't written again, and where nothing changes FILE isn't replaced.
+Lines may stand in any order; writes are done in the order of the slots.
+
+A slot without a line stays as it is. A line with an empty text is for a blank
+slot; where the slot is written, the table is refused (exit status 65) unless
+--clear is given. A caption of no bytes is the text \\&. A slot that is altered
+isn't overwritten (exit status 10): clear it first.
+
+The table may be as spreadsheets save it: UTF-8, or UTF-16 with a byte order
+mark; lines that end with a carriage return; texts in quotation marks, with the
+mark doubled inside; empty lines and empty columns at the end. A text that isn't
+UTF-8 or is blanks alone, a third column or a slot that is there twice is
+refused, with its line.
+
+With --dry-run it prints a line for each change, with tabs between slot, \"write\"
+or \"clear\", old text and new text. The last line counts:
+
+    writes 2 clears 0 unchanged 6
+",
+        statuses: &[1, 2, 4, 5, 6, 7, 8, 10, 65, 66, 75, 79],
+    },
+    Page {
+        name: "keys",
+        operands: &["FILE", "BITS"],
+        options: &[WAIT],
+        usage: "FILE BITS [--wait SECONDS]",
+        summary: "make a pair of keys",
+        about: "\
+Makes FILE a new pair of keys of BITS bits, 64, 96 or 128, from the system's
+random source. Only you can read it (mode 0600). A file that exists is never
+overwritten (exit status 74): with its keys the captions would be lost.
+",
+        statuses: &[1, 75, 79],
+    },
+    Page {
+        name: "help",
+        operands: &["COMMAND"],
+        options: &[],
+        usage: "[COMMAND]",
+        summary: "explain a command",
+        about: "\
+Prints what a command does, or without COMMAND what there is. A command's own
+--help prints the same.
+",
+        statuses: &[],
+    },
+];
+
+/// The exit statuses and their meanings. A refusal's begins with its word.
+const STATUSES: [(u8, &str); 17] = [
+    (0, "done"),
+    (
+        1,
+        "wrong key: a key isn't 8, 12 or 16 bytes, or their lengths differ;\nBITS isn't 64, 96 or 128",
+    ),
+    (2, "twin keys: the two keys are equal"),
+    (3, "wrong span: SLOTS isn't 1 to 256"),
+    (
+        4,
+        "unfit sheet: FILE isn't a sheet, or a rule of the layout is broken",
+    ),
+    (
+        5,
+        "other key class: the sheet was blanked for keys of another length",
+    ),
+    (6, "no such slot: SLOT is the number of slots or more"),
+    (7, "overlong: the caption has more than 192 bytes"),
+    (8, "worn: the sheet has had 4294967295 writes"),
+    (9, "blank: the slot to be read is blank"),
+    (
+        10,
+        "altered: the check differs, or what was sealed isn't a caption",
+    ),
+    (64, "the command line is wrong"),
+    (65, "KEYS or the table isn't in its form"),
+    (66, "the input is empty: no caption, or no table"),
+    (
+        74,
+        "a file, standard input or standard output can't be read or written;\na sheet is as it was",
+    ),
+    (
+        75,
+        "the folder stayed locked for as long as --wait allows; the sheet is\nas it was",
+    ),
+    (
+        79,
+        "done, and not to be repeated: the new file is in place, but its\nfolder can't be flushed, so it may not outlast a power cut",
+    ),
+];
+
+/// The statuses that every command has.
+const COMMON: [u8; 3] = [0, 64, 74];
+
+const INTRODUCTION: &str = "\
+usage: captions COMMAND ...
+
+Caption sheets: up to 256 sealed captions of up to 192 bytes in one file.
 ";
+
+const OPTIONS: [(&str, &str); 3] = [
+    ("-h, --help", "print this, or what a command does"),
+    ("-V, --version", "print the version"),
+    ("--", "the words after it are no options"),
+];
+
+const OPERANDS: [(&str, &str); 5] = [
+    (
+        "FILE",
+        "a sheet; - is standard input where the sheet is only read",
+    ),
+    ("SLOT", "a slot of the sheet, numbered from 0"),
+    ("SLOTS", "the number of slots, 1 to 256"),
+    ("BITS", "the length of a key: 64, 96 or 128"),
+    (
+        "KEYS",
+        "a file with two lines of hex digits, the sealing key and the\nchecking key; - is standard input",
+    ),
+];
+
+const NOTES: &str = "
+Keys:
+Two keys of 8, 12 or 16 bytes, of one length and not equal. One pair of keys
+serves a sheet: nothing stops a write under another pair, and its slot is then
+altered to whoever reads with the first. A warning is given where the file of
+keys can be read or written by every user.
+
+Files:
+A change replaces FILE whole or not at all: whatever happens, a refusal, a full
+disk, a kill or a power cut, FILE is the old sheet or the new one. The new sheet
+is written to a file of its own in FILE's folder, .captions-new- and 32 hex
+digits, flushed and renamed. One that a killed command left there is removed by
+the next change in that folder, or after a day where another machine made it.
+
+Mode, access control list and extended attributes are kept, or the change is
+refused; owner and group are kept as far as you may set them, and another group
+gets no more than all others had. A hard link to the old file stays with the old
+sheet. A symbolic link is followed and stays. Only a regular file that you may
+write is replaced.
+
+The folder is locked meanwhile: two changes at once happen one after the other.
+Where a folder's lock isn't shared between machines, as in some network folders,
+or can't be had at all, two changes at once can lose one of the two: the sheet
+is then the other's, whole, and a write number may be used for both.
+
+What a sheet can't tell:
+An old sheet put back in the place of a newer one is a sound sheet: it lists,
+reads and verifies as it did. Note the last write number elsewhere if that
+matters. Neither does a sheet tell that a slot was cleared by somebody else.
+
+Messages:
+Standard error has a line for every exit status but 0; a refusal's last line is
+its number and word alone. Warnings and hints are there too. Control characters
+in a file's name are shown as escapes. A reader that closes the pipe early, as
+head does, is no error.
+";
+
+/// What `captions help` prints.
+pub fn overview() -> String {
+    let commands = PAGES.map(|page| (synopsis(&page), page.summary));
+    let mut text = INTRODUCTION.to_string();
+    section(
+        &mut text,
+        "Commands",
+        commands.iter().map(|(a, b)| (&**a, *b)),
+    );
+    section(&mut text, "Options", OPTIONS);
+    section(&mut text, "Operands", OPERANDS);
+    text += NOTES;
+    status_section(&mut text, |_| true);
+    text
+}
+
+/// What `captions help COMMAND` prints.
+pub fn page(page: &Page) -> String {
+    let mut text = usage(page) + "\n" + page.about;
+    if !page.options.is_empty() {
+        section(&mut text, "Options", page.options.iter().copied());
+    }
+    status_section(&mut text, |status| {
+        COMMON.contains(&status) || page.statuses.contains(&status)
+    });
+    text
+}
+
+/// The usage of a command alone, each line with its line feed.
+pub fn usage(page: &Page) -> String {
+    let indented = page.usage.replace('\n', &format!("\n{:16}", ""));
+    format!("usage: captions {} {indented}\n", page.name)
+}
+
+fn synopsis(page: &Page) -> String {
+    format!("{} {}", page.name, page.operands.join(" "))
+}
+
+fn status_section(text: &mut String, wanted: impl Fn(u8) -> bool) {
+    let wanted = STATUSES.iter().filter(|(status, _)| wanted(*status));
+    let items: Vec<(String, &str)> = wanted
+        .map(|(status, meaning)| (format!("{status:2}"), *meaning))
+        .collect();
+    section(text, "Exit status", items.iter().map(|(a, b)| (&**a, *b)));
+}
+
+/// A section's items, with their texts in one column.
+fn section<'a>(
+    text: &mut String,
+    title: &str,
+    items: impl IntoIterator<Item = (&'a str, &'a str)>,
+) {
+    let items: Vec<(&str, &str)> = items.into_iter().collect();
+    let width = items.iter().map(|(term, _)| term.len()).max().unwrap_or(0);
+    *text += &format!("\n{title}:\n");
+    for (term, meaning) in items {
+        let meaning = meaning.replace('\n', &format!("\n{:1$}", "", width + 4));
+        *text += &format!("  {term:width$}  {meaning}\n");
+    }
+}

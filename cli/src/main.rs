@@ -3,17 +3,29 @@
 //! What is accepted or refused is decided by the proved library. Here are the
 //! words of the command line, the files and the exit status.
 
-#![forbid(unsafe_code)]
+#![deny(unsafe_code)]
 
+mod attributes;
+mod caption;
 mod commands;
+mod escapes;
+mod exchange;
 mod failure;
 mod help;
+mod input;
 mod keys;
+mod listing;
+mod lock;
+mod place;
 mod sheet_file;
+mod shown;
+mod system;
+mod table;
+mod temporary;
+mod terminal;
+mod words;
 
-use failure::Failure;
 use std::ffi::OsString;
-use std::io::Write;
 use std::process::ExitCode;
 
 fn main() -> ExitCode {
@@ -21,14 +33,8 @@ fn main() -> ExitCode {
     match commands::run(&words) {
         Ok(()) => ExitCode::SUCCESS,
         Err(failure) => {
-            report(&failure);
+            terminal::say(&failure.message());
             ExitCode::from(failure.status())
         }
     }
-}
-
-/// Says on standard error what failed. Where that can't be written either,
-/// the exit status still tells.
-fn report(failure: &Failure) {
-    let _ = std::io::stderr().write_all(failure.message().as_bytes());
 }

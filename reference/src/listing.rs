@@ -1,9 +1,9 @@
 //! The listing (document 01, after cases A to M).
 
-use crate::sheet::{fit_header, mark_of};
+use crate::sheet::{fit_header, mark_of, Edition, Header, MOST_SLOTS};
 
-/// The most bytes a sheet has: 256 slots.
-pub const MOST_BYTES: usize = 53256;
+/// The most bytes a sheet has: 256 slots, 53256 bytes.
+pub const MOST_BYTES: usize = Edition::BLANKED.sheet_length(MOST_SLOTS);
 
 /// The listing text of a sheet; an unfit one, or one above 53256 bytes, gives
 /// "unfit" alone on its line.
@@ -21,13 +21,13 @@ fn text(sheet: &[u8]) -> String {
     let key_bits = 16 * header.t;
     let mut text = format!("slots {} key {} last {}\n", header.n, key_bits, header.w);
     for slot in 0..header.n {
-        text += &slot_line(sheet, header.n, slot);
+        text += &slot_line(sheet, &header, slot);
     }
     text
 }
 
-fn slot_line(sheet: &[u8], n: usize, slot: usize) -> String {
-    match mark_of(sheet, n, slot) {
+fn slot_line(sheet: &[u8], header: &Header, slot: usize) -> String {
+    match mark_of(sheet, header, slot) {
         None => format!("{slot} blank\n"),
         Some(mark) => format!("{slot} written {} {}\n", mark.write_number, mark.length),
     }

@@ -9,32 +9,61 @@ use crate::{
 };
 use std::ops::Range;
 
-/// The bytes before the marks.
-pub const HEADER: usize = 8;
 /// The bytes of a mark.
 pub const MARK: usize = 16;
 /// The bytes of a sealed field, of a window and of the longest caption.
 pub const FIELD: usize = 192;
 /// The most slots a sheet has.
 pub const MOST_SLOTS: usize = 256;
-/// The edition.
-pub const EDITION: u8 = 1;
 
-/// The length of a sheet of n slots, n from 1 to 256.
-fn sheet_length(n: usize) -> usize {
-    HEADER + (MARK + FIELD) * n
+/// The edition of a sheet.
+#[derive(Clone, Copy)]
+pub(crate) enum Edition {
+    One,
 }
 
-/// Where the mark of a slot stands.
-fn mark_place(slot: usize) -> Range<usize> {
-    let start = HEADER + MARK * slot;
-    start..start + MARK
-}
+impl Edition {
+    /// The edition that blanking makes.
+    pub(crate) const BLANKED: Edition = Edition::One;
 
-/// Where the sealed field of a slot stands.
-fn field_place(n: usize, slot: usize) -> Range<usize> {
-    let start = HEADER + MARK * n + FIELD * slot;
-    start..start + FIELD
+    /// The edition of byte 3; none if there is no such edition.
+    fn of_number(number: u8) -> Option<Edition> {
+        match number {
+            1 => Some(Edition::One),
+            _ => None,
+        }
+    }
+
+    /// Byte 3.
+    fn number(self) -> u8 {
+        match self {
+            Edition::One => 1,
+        }
+    }
+
+    /// The bytes before the marks.
+    const fn header(self) -> usize {
+        match self {
+            Edition::One => 8,
+        }
+    }
+
+    /// The length of a sheet of n slots, n from 1 to 256.
+    pub(crate) const fn sheet_length(self, n: usize) -> usize {
+        self.header() + (MARK + FIELD) * n
+    }
+
+    /// Where the mark of a slot stands.
+    fn mark_place(self, slot: usize) -> Range<usize> {
+        let start = self.header() + MARK * slot;
+        start..start + MARK
+    }
+
+    /// Where the sealed field of a slot stands.
+    fn field_place(self, n: usize, slot: usize) -> Range<usize> {
+        let start = self.header() + MARK * n + FIELD * slot;
+        start..start + FIELD
+    }
 }
 
 /// A number of up to four bytes, high byte first.
@@ -46,21 +75,38 @@ fn all_zero(bytes: &[u8]) -> bool {
     bytes.iter().all(|byte| *byte == 0)
 }
 
-/// The header, bytes 0 to 7.
+/// The header, and what its edition settles.
 pub(crate) struct Header {
     pub(crate) n: usize,
     pub(crate) t: usize,
-    pub(crate) edition: u8,
+    edition: Edition,
     pub(crate) w: u32,
 }
 
-/// The header of a sheet of at least 8 bytes.
-fn header(sheet: &[u8]) -> Header {
-    Header {
-        n: number(&sheet[0..2]) as usize,
-        t: usize::from(sheet[2]),
-        edition: sheet[3],
-        w: number(&sheet[4..8]),
+impl Header {
+    /// None if the sheet is shorter than 8 bytes or there is no such edition.
+    fn of_sheet(sheet: &[u8]) -> Option<Header> {
+        if sheet.len() < 8 {
+            return None;
+        }
+        Some(Header {
+            n: number(&sheet[0..2]) as usize,
+            t: usize::from(sheet[2]),
+            edition: Edition::of_number(sheet[3])?,
+            w: number(&sheet[4..8]),
+        })
+    }
+
+    fn sheet_length(&self) -> usize {
+        self.edition.sheet_length(self.n)
+    }
+
+    fn mark_place(&self, slot: usize) -> Range<usize> {
+        self.edition.mark_place(slot)
+    }
+
+    fn field_place(&self, slot: usize) -> Range<usize> {
+        self.edition.field_place(self.n, slot)
     }
 }
 
@@ -111,44 +157,40 @@ pub fn fit(sheet: &[u8]) -> bool {
 
 /// The header of a sheet that meets every rule of the layout.
 pub(crate) fn fit_header(sheet: &[u8]) -> Option<Header> {
-    if sheet.len() < HEADER {
-        return None;
-    }
-    let header = header(sheet);
+    let header = Header::of_sheet(sheet)?;
     let fits = is_slot_count(header.n)
         && is_key_class(header.t)
-        && header.edition == EDITION
-        && sheet.len() == sheet_length(header.n)
+        && sheet.len() == header.sheet_length()
         && (0..header.n).all(|slot| slot_fits(sheet, &header, slot));
     fits.then_some(header)
 }
 
 /// Every slot is one or the other: blank or written.
 fn slot_fits(sheet: &[u8], header: &Header, slot: usize) -> bool {
-    is_blank(sheet, header.n, slot) || is_written(sheet, header.w, slot)
+    is_blank(sheet, header, slot) || is_written(sheet, header, slot)
 }
 
 /// A blank slot has all 208 bytes zero.
-fn is_blank(sheet: &[u8], n: usize, slot: usize) -> bool {
-    all_zero(&sheet[mark_place(slot)]) && all_zero(&sheet[field_place(n, slot)])
+fn is_blank(sheet: &[u8], header: &Header, slot: usize) -> bool {
+    all_zero(&sheet[header.mark_place(slot)]) && all_zero(&sheet[header.field_place(slot)])
 }
 
 /// A written slot has a write number from 1 to w, a length from 0 to 192 and
 /// two zero bytes.
-fn is_written(sheet: &[u8], w: u32, slot: usize) -> bool {
-    let mark = Mark::of_bytes(&sheet[mark_place(slot)]);
+fn is_written(sheet: &[u8], header: &Header, slot: usize) -> bool {
+    let mark = Mark::of_bytes(&sheet[header.mark_place(slot)]);
     1 <= mark.write_number
-        && mark.write_number <= w
+        && mark.write_number <= header.w
         && usize::from(mark.length) <= FIELD
         && all_zero(&mark.zeros)
 }
 
 /// The mark of a slot below n of a sheet that fits; none if it is blank.
-pub(crate) fn mark_of(sheet: &[u8], n: usize, slot: usize) -> Option<Mark> {
-    if is_blank(sheet, n, slot) {
+pub(crate) fn mark_of(sheet: &[u8], header: &Header, slot: usize) -> Option<Mark> {
+    if is_blank(sheet, header, slot) {
         None
     } else {
-        Some(Mark::of_bytes(&sheet[mark_place(slot)]))
+        Some(Mark::of_bytes(&sheet[header.mark_place(slot)]))
     }
 }
 
@@ -213,7 +255,7 @@ pub fn blank(sheet: &mut [u8], n: usize, t: usize) -> Answer {
             sheet.fill(0);
             sheet[0..2].copy_from_slice(&(n as u16).to_be_bytes());
             sheet[2] = t as u8;
-            sheet[3] = EDITION;
+            sheet[3] = Edition::BLANKED.number();
             Answer::accepted(0)
         }
         Err(number) => Answer::refused(number),
@@ -223,14 +265,14 @@ pub fn blank(sheet: &mut [u8], n: usize, t: usize) -> Answer {
 fn blanking_tests(sheet: &[u8], n: usize, t: usize) -> Result<(), u8> {
     refuse_if(!is_key_class(t), WRONG_KEY)?;
     refuse_if(!is_slot_count(n), WRONG_SPAN)?;
-    refuse_if(sheet.len() != sheet_length(n), WRONG_SPAN)
+    refuse_if(sheet.len() != Edition::BLANKED.sheet_length(n), WRONG_SPAN)
 }
 
 // ---- Writing ----
 
 /// What a write that meets no refusal stores.
 struct Written {
-    n: usize,
+    header: Header,
     mark: Mark,
     field: Vec<u8>,
 }
@@ -246,8 +288,8 @@ pub fn write(
     match tested_write(sealing_key, checking_key, sheet, slot, caption) {
         Ok(written) => {
             sheet[4..8].copy_from_slice(&written.mark.write_number.to_be_bytes());
-            sheet[mark_place(slot)].copy_from_slice(&written.mark.bytes());
-            sheet[field_place(written.n, slot)].copy_from_slice(&written.field);
+            sheet[written.header.mark_place(slot)].copy_from_slice(&written.mark.bytes());
+            sheet[written.header.field_place(slot)].copy_from_slice(&written.field);
             Answer::accepted(0)
         }
         Err(number) => Answer::refused(number),
@@ -277,7 +319,7 @@ fn tested_write(
         check: check(checking, write_number, slot, length, &field),
     };
     Ok(Written {
-        n: header.n,
+        header,
         mark,
         field,
     })
@@ -289,8 +331,8 @@ fn tested_write(
 pub fn clear(sheet: &mut [u8], slot: usize) -> Answer {
     match tested_clear(sheet, slot) {
         Ok(header) => {
-            sheet[mark_place(slot)].fill(0);
-            sheet[field_place(header.n, slot)].fill(0);
+            sheet[header.mark_place(slot)].fill(0);
+            sheet[header.field_place(slot)].fill(0);
             Answer::accepted(0)
         }
         Err(number) => Answer::refused(number),
@@ -344,9 +386,9 @@ fn tested_read(
     let header = tested_header(sheet)?;
     refuse_if(sealing_key.len() != 2 * header.t, OTHER_KEY_CLASS)?;
     refuse_if(slot >= header.n, NO_SUCH_SLOT)?;
-    let mark = mark_of(sheet, header.n, slot).ok_or(BLANK)?;
+    let mark = mark_of(sheet, &header, slot).ok_or(BLANK)?;
 
-    let field = &sheet[field_place(header.n, slot)];
+    let field = &sheet[header.field_place(slot)];
     let true_check = check(checking, mark.write_number, slot, mark.length, field);
     refuse_if(mark.check != true_check, ALTERED)?;
     let opened = opened_field(sealing, mark.write_number, slot, field);

@@ -2,6 +2,7 @@
 
 use crate::cipher::{decrypt_block, encrypt, encrypt_block, opening_key, sealing_key, Register};
 use crate::modes::{cbc_decrypt, cbc_encrypt, cmac};
+use crate::sheet::Edition;
 use crate::{blank, cipher, clear, listing, read, write, Answer};
 
 /// The values of t.
@@ -130,32 +131,79 @@ pub fn sheet() -> String {
 fn sheet_of_class(t: usize) -> String {
     let sealing = key(t, t);
     let checking = key(t, t + 1);
-    let seventeen = ramp(53, 7, 17);
-    let longest = ramp(31, 5, 192);
-    let overlong = ramp(31, 5, 193);
-    let writes: [(usize, &[u8]); 4] = [(0, b""), (1, &seventeen), (2, &longest), (1, b"abc")];
-    let refused_writes: [(usize, &[u8]); 2] = [(3, b"abc"), (2, &overlong)];
-
-    let mut sheet = vec![0xff; 8 + 208 * 3];
+    let mut sheet = vec![0xff; Edition::BLANKED.sheet_length(3)];
     let answer = blank(&mut sheet, 3, t);
     let mut lines = call_line("blank", answer, &checking, &sheet);
-    for (slot, caption) in writes {
-        let answer = write(&sealing, &checking, &mut sheet, slot, caption);
-        lines += &call_line("write", answer, &checking, &sheet);
-    }
+    lines += &accepted_writes(&sealing, &checking, &mut sheet);
     let answer = clear(&mut sheet, 0);
     lines += &call_line("clear", answer, &checking, &sheet);
-    for (slot, caption) in refused_writes {
-        let answer = write(&sealing, &checking, &mut sheet, slot, caption);
-        lines += &call_line("write", answer, &checking, &sheet);
-    }
+    lines += &read_line(&sealing, &checking, &sheet, 0);
+    lines += &refused_writes(&sealing, &checking, &mut sheet);
+    lines += &twin_writes(&sealing, &checking, &mut sheet);
     for slot in 0..=3 {
-        let mut window = [0xff; 192];
-        let answer = read(&sealing, &checking, &sheet, slot, &mut window);
-        let Answer { number, length } = answer;
-        lines += &format!("read {slot} {number} {length} {}\n", hex(&window));
+        lines += &read_line(&sealing, &checking, &sheet, slot);
     }
+    lines += &read_line(&sealing, &sealing, &sheet, 1);
     lines + &String::from_utf8_lossy(&listing(&sheet))
+}
+
+/// Writes of the empty caption, two long ones and one in a written slot.
+fn accepted_writes(sealing_key: &[u8], checking_key: &[u8], sheet: &mut [u8]) -> String {
+    let seventeen = ramp(53, 7, 17);
+    let longest = ramp(31, 5, 192);
+    let writes: [(usize, &[u8]); 4] = [(0, b""), (1, &seventeen), (2, &longest), (1, b"abc")];
+    write_lines(sealing_key, checking_key, sheet, &writes)
+}
+
+/// A write past the last slot and one of an overlong caption.
+fn refused_writes(sealing_key: &[u8], checking_key: &[u8], sheet: &mut [u8]) -> String {
+    let overlong = ramp(31, 5, 193);
+    let writes: [(usize, &[u8]); 2] = [(3, b"abc"), (2, &overlong)];
+    write_lines(sealing_key, checking_key, sheet, &writes)
+}
+
+/// Writes with a pair of keys.
+fn write_lines(
+    sealing_key: &[u8],
+    checking_key: &[u8],
+    sheet: &mut [u8],
+    writes: &[(usize, &[u8])],
+) -> String {
+    let mut lines = String::new();
+    for (slot, caption) in writes {
+        let answer = write(sealing_key, checking_key, sheet, *slot, caption);
+        lines += &call_line("write", answer, checking_key, sheet);
+    }
+    lines
+}
+
+/// A write with the sealing key for both keys, which is refused, and one with a
+/// near twin of it for the checking key, which is accepted. The lines keep to
+/// the sheet's own checking key.
+fn twin_writes(sealing_key: &[u8], checking_key: &[u8], sheet: &mut [u8]) -> String {
+    let mut lines = String::new();
+    for second_key in [sealing_key.to_vec(), near_twin(sealing_key)] {
+        let answer = write(sealing_key, &second_key, sheet, 0, b"abc");
+        lines += &call_line("write", answer, checking_key, sheet);
+    }
+    lines
+}
+
+/// The key with the lowest bit of its first byte flipped.
+fn near_twin(key: &[u8]) -> Vec<u8> {
+    let mut twin = key.to_vec();
+    if let Some(first) = twin.first_mut() {
+        *first ^= 1;
+    }
+    twin
+}
+
+/// "read", slot, number, length, window.
+fn read_line(sealing_key: &[u8], checking_key: &[u8], sheet: &[u8], slot: usize) -> String {
+    let mut window = [0xff; 192];
+    let answer = read(sealing_key, checking_key, sheet, slot, &mut window);
+    let Answer { number, length } = answer;
+    format!("read {slot} {number} {length} {}\n", hex(&window))
 }
 
 /// Call, number, length, CMAC of the whole sheet under the checking key.

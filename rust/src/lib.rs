@@ -27,8 +27,8 @@
 //! # Ok::<(), Refusal>(())
 //! ```
 //!
-//! The library is linked from `target/staticlib/libcaptions_c.a`, which
-//! `rt staticlib captions_c` makes in the repository root. It is for x86-64.
+//! The library is linked from `build/libcaptions_c.a`, which `make` makes in the
+//! repository root. It is for Linux on x86-64.
 
 #![warn(missing_docs)]
 

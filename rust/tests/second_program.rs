@@ -1,6 +1,11 @@
 //! Every function against the second program, on seeded calls about every edge.
 
-use captions::{sheet_len, Refusal, FIELD};
+/// The editions, from the second program's tests.
+#[path = "../../reference/tests/suite/edition.rs"]
+mod edition;
+
+use captions::{sheet_len, Refusal, FIELD, HEADER};
+use edition::Edition;
 use reference::Answer;
 
 /// A small seeded generator (splitmix64).
@@ -31,6 +36,13 @@ impl Random {
     fn key(&mut self) -> Vec<u8> {
         let length = self.pick(&[8, 12, 16, 8, 12, 16, 8, 12, 16, 0, 7, 9, 13, 17]);
         self.bytes(length)
+    }
+
+    /// Keys that serve a blank sheet of an edition and a class.
+    fn keys(&mut self, edition: Edition, key_words: usize) -> [Vec<u8>; 2] {
+        match edition {
+            Edition::One => [self.bytes(2 * key_words), self.bytes(2 * key_words)],
+        }
     }
 
     /// Bytes, most often 8 of them.
@@ -105,13 +117,18 @@ fn checks() {
     met.all_of(&[0, 1, 3]);
 }
 
+/// The only blanking: other tests lay out a blank sheet.
 #[test]
 fn blanking() {
+    let edition = Edition::BLANKED;
+    assert_eq!(HEADER, edition.header());
     let mut random = Random(3);
     let mut met = Met::default();
     for slots in (0..=257).chain([65536, usize::MAX / 208 + 1, usize::MAX]) {
         for key_words in [4, 6, 8, 0, 5, 7, 9, 260, usize::MAX] {
-            let length = sheet_len(slots.min(257)) + random.pick(&[0, 0, 0, 1]);
+            let near = slots.min(257);
+            assert_eq!(sheet_len(near), edition.sheet_length(near));
+            let length = sheet_len(near) + random.pick(&[0, 0, 0, 1]);
             let old = random.bytes(length);
             let (mut sheet, mut expected) = (old.clone(), old);
             let answer = captions::blank(&mut sheet, slots, key_words).map(|()| 0);
@@ -127,57 +144,63 @@ fn blanking() {
 fn sheets() {
     let mut random = Random(4);
     let mut met = Met::default();
-    for _ in 0..300 {
-        let (slots, key_words) = (1 + random.below(5), random.pick(&[4, 6, 8]));
-        let keys = [random.bytes(2 * key_words), random.bytes(2 * key_words)];
-        let mut sheet = vec![0; sheet_len(slots)];
-        captions::blank(&mut sheet, slots, key_words).unwrap();
-        for _ in 0..20 {
-            let slot = random.pick(&[0, 0, slots - 1, slots - 1, slots, usize::MAX]);
-            let [sealing, checking] = pair(&mut random, &keys);
-            let mut expected = sheet.clone();
-            match random.below(8) {
-                0 => {
-                    let answer = captions::clear(&mut sheet, slot).map(|()| 0);
-                    met.compare(answer, reference::clear(&mut expected, slot));
-                }
-                1..=3 => {
-                    let length = random.pick(&[0, 1, 8, 17, 191, 192, 192, 193]);
-                    let caption = random.bytes(length);
-                    let answer = captions::write(&sealing, &checking, &mut sheet, slot, &caption);
-                    met.compare(
-                        answer.map(|()| 0),
-                        reference::write(&sealing, &checking, &mut expected, slot, &caption),
-                    );
-                }
-                4..=6 => {
-                    let length = random.pick(&[FIELD, FIELD, FIELD, FIELD, 0, 191, 193]);
-                    let (mut window, mut expected) = (vec![7; length], vec![7; length]);
-                    let answer = captions::read(&sealing, &checking, &sheet, slot, &mut window);
-                    met.compare(
-                        answer,
-                        reference::read(&sealing, &checking, &sheet, slot, &mut expected),
-                    );
-                    assert_eq!(window, expected);
-                }
-                _ => {
-                    let place = random.below(sheet.len());
-                    sheet[place] = random.pick(&[0, 1, 255]) as u8;
-                    expected = sheet.clone();
-                }
-            }
-            assert!(sheet == expected);
-            assert_eq!(captions::list(&sheet), reference::listing(&sheet));
-            // A sheet that a changed byte made unfit or worn is begun anew.
-            if !reference::fit(&sheet) && random.below(2) == 0 {
-                captions::blank(&mut sheet, slots, key_words).unwrap();
-            }
-            if random.below(20) == 0 {
-                sheet[4..8].fill(255);
-            }
+    for edition in Edition::ALL {
+        for _ in 0..300 {
+            list_of_calls(&mut random, edition, &mut met);
         }
     }
     met.all_of(&[0, 1, 2, 3, 4, 5, 6, 7, 8, 9, 10]);
+}
+
+/// A list of calls on a sheet of an edition.
+fn list_of_calls(random: &mut Random, edition: Edition, met: &mut Met) {
+    let (slots, key_words) = (1 + random.below(5), random.pick(&[4, 6, 8]));
+    let keys = random.keys(edition, key_words);
+    let mut sheet = edition.blank_sheet(slots, key_words);
+    for _ in 0..20 {
+        let slot = random.pick(&[0, 0, slots - 1, slots - 1, slots, usize::MAX]);
+        let [sealing, checking] = pair(random, &keys);
+        let mut expected = sheet.clone();
+        match random.below(8) {
+            0 => {
+                let answer = captions::clear(&mut sheet, slot).map(|()| 0);
+                met.compare(answer, reference::clear(&mut expected, slot));
+            }
+            1..=3 => {
+                let length = random.pick(&[0, 1, 8, 17, 191, 192, 192, 193]);
+                let caption = random.bytes(length);
+                let answer = captions::write(&sealing, &checking, &mut sheet, slot, &caption);
+                met.compare(
+                    answer.map(|()| 0),
+                    reference::write(&sealing, &checking, &mut expected, slot, &caption),
+                );
+            }
+            4..=6 => {
+                let length = random.pick(&[FIELD, FIELD, FIELD, FIELD, 0, 191, 193]);
+                let (mut window, mut expected) = (vec![7; length], vec![7; length]);
+                let answer = captions::read(&sealing, &checking, &sheet, slot, &mut window);
+                met.compare(
+                    answer,
+                    reference::read(&sealing, &checking, &sheet, slot, &mut expected),
+                );
+                assert_eq!(window, expected);
+            }
+            _ => {
+                let place = random.below(sheet.len());
+                sheet[place] = random.pick(&[0, 1, 255]) as u8;
+                expected = sheet.clone();
+            }
+        }
+        assert!(sheet == expected);
+        assert_eq!(captions::list(&sheet), reference::listing(&sheet));
+        // A sheet that a changed byte made unfit or worn is begun anew.
+        if !reference::fit(&sheet) && random.below(2) == 0 {
+            sheet = edition.blank_sheet(slots, key_words);
+        }
+        if random.below(20) == 0 {
+            sheet[4..8].fill(255);
+        }
+    }
 }
 
 /// Most often the sheet's own keys; else wrong, twin or other ones.
@@ -192,17 +215,18 @@ fn pair(random: &mut Random, keys: &[Vec<u8>; 2]) -> [Vec<u8>; 2] {
 
 #[test]
 fn the_longest_listing_fits() {
-    let mut sheet = vec![0; sheet_len(256)];
-    captions::blank(&mut sheet, 256, 8).unwrap();
-    sheet[4..8].fill(255);
-    for slot in 0..256 {
-        let mark = captions::HEADER + captions::MARK * slot;
-        sheet[mark..mark + 4].fill(255);
-        sheet[mark + 5] = FIELD as u8;
+    for edition in Edition::ALL {
+        let mut sheet = edition.blank_sheet(256, 8);
+        sheet[4..8].fill(255);
+        for slot in 0..256 {
+            let mark = &mut sheet[edition.mark_place(slot)];
+            mark[..4].fill(255);
+            mark[5] = FIELD as u8;
+        }
+        let listing = captions::list(&sheet);
+        assert_eq!(listing.len(), captions::LISTING);
+        assert_eq!(listing, reference::listing(&sheet));
+        sheet.push(0);
+        assert_eq!(captions::list(&sheet), b"unfit\n");
     }
-    let listing = captions::list(&sheet);
-    assert_eq!(listing.len(), captions::LISTING);
-    assert_eq!(listing, reference::listing(&sheet));
-    sheet.push(0);
-    assert_eq!(captions::list(&sheet), b"unfit\n");
 }

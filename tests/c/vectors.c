@@ -86,30 +86,55 @@ static void print_call(const char *call, captions_answer answer,
     print_hex(mac, 8, "\n");
 }
 
+/* A write under a checking key of its own; the line keeps to the sheet's. */
+static void print_write_with(const struct keys *keys, const uint8_t *checking,
+                             uint8_t *sheet, size_t slot, const void *caption,
+                             size_t length)
+{
+    captions_answer answer = captions_write(
+        keys->sealing, keys->length, checking, keys->length, sheet, SHEET,
+        slot, (const uint8_t *)caption, length);
+    print_call("write", answer, keys, sheet);
+}
+
 static void print_write(const struct keys *keys, uint8_t *sheet, size_t slot,
                         const void *caption, size_t length)
 {
-    captions_answer answer = captions_write(
-        keys->sealing, keys->length, keys->checking, keys->length, sheet,
-        SHEET, slot, (const uint8_t *)caption, length);
-    print_call("write", answer, keys, sheet);
+    print_write_with(keys, keys->checking, sheet, slot, caption, length);
+}
+
+/* Twin keys, and keys that differ in one bit. */
+static void print_twin_writes(const struct keys *keys, uint8_t *sheet)
+{
+    uint8_t near[16];
+    memcpy(near, keys->sealing, sizeof near);
+    near[0] ^= 1;
+    print_write_with(keys, keys->sealing, sheet, 0, "abc", 3);
+    print_write_with(keys, near, sheet, 0, "abc", 3);
+}
+
+static void print_read(const struct keys *keys, const uint8_t *checking,
+                       const uint8_t *sheet, size_t slot)
+{
+    uint8_t window[CAPTIONS_FIELD];
+    captions_answer answer;
+    memset(window, 0xff, sizeof window);
+    answer = captions_read(keys->sealing, keys->length, checking,
+                           keys->length, sheet, SHEET, slot, window,
+                           sizeof window);
+    printf("read %lu %d %d ", (unsigned long)slot, answer.number,
+           answer.length);
+    print_hex(window, sizeof window, "\n");
 }
 
 static void print_reads_and_listing(const struct keys *keys,
                                     const uint8_t *sheet)
 {
-    uint8_t window[CAPTIONS_FIELD], listing[CAPTIONS_LISTING];
+    uint8_t listing[CAPTIONS_LISTING];
     size_t slot;
-    for (slot = 0; slot <= 3; slot++) {
-        captions_answer answer;
-        memset(window, 0xff, sizeof window);
-        answer = captions_read(keys->sealing, keys->length, keys->checking,
-                               keys->length, sheet, SHEET, slot, window,
-                               sizeof window);
-        printf("read %lu %d %d ", (unsigned long)slot, answer.number,
-               answer.length);
-        print_hex(window, sizeof window, "\n");
-    }
+    for (slot = 0; slot <= 3; slot++)
+        print_read(keys, keys->checking, sheet, slot);
+    print_read(keys, keys->sealing, sheet, 1);
     fwrite(listing, 1, captions_list(sheet, SHEET, listing, sizeof listing),
            stdout);
 }
@@ -118,6 +143,7 @@ static void sheet_of_class(size_t words)
 {
     uint8_t sheet[SHEET], seventeen[17], longest[193];
     struct keys keys;
+    memset(&keys, 0, sizeof keys);
     keys.length = 2 * words;
     make_key(keys.sealing, words, words);
     make_key(keys.checking, words, words + 1);
@@ -131,8 +157,10 @@ static void sheet_of_class(size_t words)
     print_write(&keys, sheet, 2, longest, 192);
     print_write(&keys, sheet, 1, "abc", 3);
     print_call("clear", captions_clear(sheet, SHEET, 0), &keys, sheet);
+    print_read(&keys, keys.checking, sheet, 0);
     print_write(&keys, sheet, 3, "abc", 3);
     print_write(&keys, sheet, 2, longest, 193);
+    print_twin_writes(&keys, sheet);
     print_reads_and_listing(&keys, sheet);
 }
 

@@ -3,7 +3,7 @@
 use std::path::Path;
 use std::process::exit;
 
-const FOLDER: &str = "../../target/staticlib";
+const FOLDER: &str = "../../build";
 
 fn main() {
     let package = std::env::var("CARGO_MANIFEST_DIR").unwrap_or_default();
@@ -11,7 +11,9 @@ fn main() {
     let library = folder.join("libcaptions_c.a");
     println!("cargo:rerun-if-changed={}", library.display());
     if !library.is_file() {
-        eprintln!("target/staticlib/libcaptions_c.a is not there: run `rt staticlib captions_c` in the repository's root");
+        eprintln!(
+            "build/libcaptions_c.a is not there: run `make library` in the repository's root"
+        );
         exit(1);
     }
     println!("cargo:rustc-link-search=native={}", folder.display());

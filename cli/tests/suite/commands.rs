@@ -3,6 +3,7 @@
 use crate::support::*;
 use crate::words;
 use std::fs;
+use std::path::Path;
 use std::process::Command;
 
 const CLASSES: [(usize, &str); 3] = [(8, "64"), (12, "96"), (16, "128")];
@@ -17,7 +18,17 @@ fn blank_makes_the_second_programs_sheet() {
             assert_eq!(fs::read(file).unwrap(), blank_sheet(slots, key_len / 2));
         }
     }
-    assert!(!scratch.names().contains(&TEMPORARY.to_string()));
+    assert!(temporaries(scratch.path()).is_empty());
+}
+
+/// Writes a caption, which may be empty.
+#[track_caller]
+fn write(file: &Path, slot: usize, keys: &Path, caption: &[u8]) {
+    let mut words = words!["write", file, slot.to_string(), keys].to_vec();
+    if caption.is_empty() {
+        words.push("--empty".into());
+    }
+    run_with(&words, caption).done();
 }
 
 #[test]
@@ -36,7 +47,7 @@ fn write_stores_what_the_second_program_stores() {
             (2, b"\0\0\0"),
         ];
         for (slot, caption) in captions {
-            run_with(&words!["write", file, slot.to_string(), keys], caption).done();
+            write(&file, slot, &keys, caption);
             sheet = written(&sheet, key_len, slot, caption);
             assert_eq!(fs::read(&file).unwrap(), sheet);
             run(&words!["read", file, slot.to_string(), keys]).printed(caption);
@@ -50,7 +61,7 @@ fn read_prints_the_bytes_and_no_line_feed() {
     let (file, keys) = (scratch.sheet("sheet", 1, 4), scratch.keys(8));
     for length in [0, 1, 8, 191, 192] {
         let caption: Vec<u8> = (0..length).map(|i| (255 - i) as u8).collect();
-        run_with(&words!["write", file, "0", keys], &caption).done();
+        write(&file, 0, &keys, &caption);
         run(&words!["read", file, "0", keys]).printed(&caption);
     }
 }

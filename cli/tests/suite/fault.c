@@ -6,7 +6,11 @@
  *   FAULT_AT    the call at which the fault happens, from 0
  *   FAULT_HOW   "kill": a SIGKILL in the place of the call
  *               "short": a write takes half of its bytes
- *               a number: the call fails with this errno */
+ *               a number: the call fails with this errno
+ *   FAULT_CALL  beside FAULT_HOW: every call of this name fails, at no number
+ *   FAULT_LOCK  set: a lock is given to everybody, as if each were alone
+ *   FAULT_BOOT  a file that stands for the running system's number, so that the
+ *               command seems to run on another machine */
 #define _GNU_SOURCE
 #include <dlfcn.h>
 #include <errno.h>
@@ -16,6 +20,7 @@
 #include <stdio.h>
 #include <stdlib.h>
 #include <string.h>
+#include <sys/file.h>
 #include <sys/syscall.h>
 #include <sys/types.h>
 #include <unistd.h>
@@ -40,7 +45,10 @@ static void log_call(const char *name, const char *path)
 static const char *fault(const char *name, const char *path)
 {
     const char *at = getenv("FAULT_AT"), *how = getenv("FAULT_HOW");
+    const char *call = getenv("FAULT_CALL");
     log_call(name, path);
+    if (call != NULL && how != NULL && strcmp(call, name) == 0)
+        return how;
     if (at == NULL || how == NULL || calls++ != atoi(at))
         return NULL;
     if (strcmp(how, "kill") == 0)
@@ -80,6 +88,9 @@ int open64(const char *path, int flags, ...)
         mode = va_arg(rest, mode_t);
         va_end(rest);
     }
+    if (strcmp(path, "/proc/sys/kernel/random/boot_id") == 0 &&
+        getenv("FAULT_BOOT") != NULL)
+        path = getenv("FAULT_BOOT");
     PASS(fault("open", path), "open64", int, (const char *, int, ...),
          (path, flags, mode));
 }
@@ -101,6 +112,9 @@ ssize_t write(int file, const void *bytes, size_t count)
 
 int flock(int file, int operation)
 {
+    /* An unlocking always succeeds and keeps nobody out. */
+    if (getenv("FAULT_LOCK") != NULL)
+        operation = LOCK_UN;
     PASS(fault_of_file("flock", file), "flock", int, (int, int),
          (file, operation));
 }
@@ -131,4 +145,37 @@ int rename(const char *old, const char *new)
 int unlink(const char *path)
 {
     PASS(fault("unlink", path), "unlink", int, (const char *), (path));
+}
+
+int linkat(int old_at, const char *old, int new_at, const char *new, int flags)
+{
+    PASS(fault("link", old), "linkat", int,
+         (int, const char *, int, const char *, int),
+         (old_at, old, new_at, new, flags));
+}
+
+ssize_t flistxattr(int file, char *names, size_t size)
+{
+    PASS(fault_of_file("flistxattr", file), "flistxattr", ssize_t,
+         (int, char *, size_t), (file, names, size));
+}
+
+ssize_t fgetxattr(int file, const char *name, void *value, size_t size)
+{
+    PASS(fault_of_file("fgetxattr", file), "fgetxattr", ssize_t,
+         (int, const char *, void *, size_t), (file, name, value, size));
+}
+
+int fsetxattr(int file, const char *name, const void *value, size_t size,
+              int flags)
+{
+    PASS(fault_of_file("fsetxattr", file), "fsetxattr", int,
+         (int, const char *, const void *, size_t, int),
+         (file, name, value, size, flags));
+}
+
+int fremovexattr(int file, const char *name)
+{
+    PASS(fault_of_file("fremovexattr", file), "fremovexattr", int,
+         (int, const char *), (file, name));
 }

@@ -5,26 +5,20 @@
 
 use crate::support::*;
 use crate::words;
+use std::collections::HashSet;
 use std::ffi::OsString;
 use std::fs;
 use std::path::{Path, PathBuf};
-use std::process::Command;
 
+const EPERM: i32 = 1;
 const ENOENT: i32 = 2;
 const EIO: i32 = 5;
+const EINVAL: i32 = 22;
 const ENOSPC: i32 = 28;
+const ENOLCK: i32 = 37;
+const ENOSYS: i32 = 38;
+const EOPNOTSUPP: i32 = 95;
 const SIGKILL: i32 = 9;
-
-/// The library that is preloaded.
-fn fault_library(scratch: &Scratch) -> PathBuf {
-    let library = scratch.join("fault.so");
-    let source = concat!(env!("CARGO_MANIFEST_DIR"), "/tests/suite/fault.c");
-    let mut command = Command::new("cc");
-    command.args(["-shared", "-fPIC", "-Wall", "-Wextra", "-Werror", "-o"]);
-    let status = command.arg(&library).args([source, "-ldl"]).status();
-    assert!(status.unwrap().success());
-    library
-}
 
 /// A change of a sheet, with the sheets before and after it.
 struct Change {
@@ -38,19 +32,19 @@ struct Place {
     scratch: Scratch,
     folder: PathBuf,
     file: PathBuf,
-    library: PathBuf,
+    locks: Locks,
     log: PathBuf,
 }
 
 impl Place {
-    fn new() -> Place {
+    fn new(locks: Locks) -> Place {
         let scratch = Scratch::new();
         let folder = scratch.join("folder");
         fs::create_dir(&folder).unwrap();
         Place {
             file: folder.join("sheet"),
             folder,
-            library: fault_library(&scratch),
+            locks,
             log: scratch.join("log"),
             scratch,
         }
@@ -59,6 +53,8 @@ impl Place {
     fn changes(&self) -> Vec<Change> {
         let (file, keys) = (&self.file, self.scratch.keys(8));
         let old = written(&blank_sheet(256, 4), 8, 7, b"Vase, 1752");
+        let table = self.scratch.join("table");
+        fs::write(&table, "slot\ttext\n7\t\n0\tVase, 1751\n").unwrap();
         vec![
             Change {
                 words: words!["write", file, "7", keys].to_vec(),
@@ -68,6 +64,11 @@ impl Place {
             Change {
                 words: words!["clear", file, "7"].to_vec(),
                 new: cleared(&old, 7),
+                old: Some(old.clone()),
+            },
+            Change {
+                words: words!["import", file, keys, "--clear", "--file", table].to_vec(),
+                new: cleared(&written(&old, 8, 0, b"Vase, 1751"), 7),
                 old: Some(old.clone()),
             },
             Change {
@@ -83,16 +84,21 @@ impl Place {
         ]
     }
 
-    /// Runs a change from its old state, with a fault or without one.
-    fn run(&self, change: &Change, fault: Option<(usize, &str)>) -> Run {
+    /// Puts the old sheet of a change in place.
+    fn lay(&self, change: &Change) {
         let _ = fs::remove_file(&self.file);
         let _ = fs::remove_file(&self.log);
         if let Some(old) = &change.old {
             fs::write(&self.file, old).unwrap();
+            set_mode(&self.file, 0o600);
         }
-        let mut command = Command::new(PROGRAM);
-        command.args(&change.words).env("LD_PRELOAD", &self.library);
-        command.env("FAULT_LOG", &self.log);
+    }
+
+    /// Runs a change from its old state, with a fault or without one.
+    fn run(&self, change: &Change, fault: Option<(usize, &str)>) -> Run {
+        self.lay(change);
+        let mut command = command_with(self.locks);
+        command.args(&change.words).env("FAULT_LOG", &self.log);
         if let Some((at, how)) = fault {
             command
                 .env("FAULT_AT", at.to_string())
@@ -130,114 +136,220 @@ impl Place {
         }
     }
 
-    fn leftover(&self) -> PathBuf {
-        self.folder.join(TEMPORARY)
+    fn has_leftover(&self) -> bool {
+        !temporaries(&self.folder).is_empty()
     }
 }
 
-/// The new bytes are flushed before the rename, and the folder after it.
+/// A path with every temporary file's name as one.
+fn named(path: &Path) -> PathBuf {
+    match path.file_name().and_then(|name| name.to_str()) {
+        Some(name) if name.starts_with(TEMPORARY) => path.with_file_name(TEMPORARY),
+        _ => path.to_path_buf(),
+    }
+}
+
+/// No command ever has a temporary name that another had.
 #[test]
-fn flushed_then_renamed_then_flushed() {
-    let place = Place::new();
-    let new = place.leftover();
-    for change in place.changes() {
-        place.run(&change, None).done();
-        assert!(place.is_new(&change));
+fn temporary_names_are_unique() {
+    let place = Place::new(Locks::Kept);
+    let mut names = HashSet::new();
+    for change in place.changes().iter().cycle().take(50) {
+        place.run(change, None).done();
         let calls = place.calls();
-        let opened = calls
+        let (_, path) = calls
             .iter()
-            .rposition(|call| *call == ("open".into(), new.clone()));
-        let mut rest: Vec<(&str, &Path)> = calls[opened.unwrap()..]
-            .iter()
-            .map(|(name, path)| (name.as_str(), path.as_path()))
-            .collect();
-        rest.dedup();
-        let mut expected = vec![("open", &*new), ("write", &new)];
-        if change.old.is_some() {
-            expected.push(("fchmod", &new));
+            .find(|call| call.0 == "flock" && call.1 != place.folder)
+            .unwrap();
+        assert!(path.starts_with(&place.folder));
+        assert!(names.insert(path.clone()), "{path:?}");
+    }
+}
+
+/// The new bytes are flushed before they are put in place, and the folder after.
+#[test]
+fn flushed_then_put_in_place_then_flushed() {
+    for locks in BOTH_LOCKS {
+        let place = Place::new(locks);
+        let new = place.folder.join(TEMPORARY);
+        for change in place.changes() {
+            place.run(&change, None).done();
+            assert!(place.is_new(&change));
+            let calls = place.calls();
+            let calls: Vec<(&str, PathBuf)> = calls
+                .iter()
+                .map(|(name, path)| (name.as_str(), named(path)))
+                .collect();
+            let opened = calls.iter().position(|call| *call == ("open", new.clone()));
+            let mut rest = calls[opened.unwrap()..].to_vec();
+            rest.retain(|(name, _)| !name.contains("xattr"));
+            rest.dedup();
+            let expected: &[&str] = match change.old {
+                Some(_) => &["open", "flock", "write", "fchmod", "fsync", "rename"],
+                None => &["open", "flock", "write", "fsync", "link", "unlink"],
+            };
+            let mut expected: Vec<(&str, PathBuf)> =
+                expected.iter().map(|name| (*name, new.clone())).collect();
+            expected.push(("fsync", place.folder.clone()));
+            assert_eq!(rest, expected);
         }
-        expected.extend([("fsync", &*new), ("rename", &new), ("fsync", &place.folder)]);
-        assert_eq!(rest, expected);
     }
 }
 
 #[test]
 fn a_kill_at_each_step() {
-    let place = Place::new();
     let (mut old, mut new) = (0, 0);
-    for change in place.changes() {
-        place.run(&change, None).done();
-        for at in 0..place.calls().len() {
-            let killed = place.run(&change, Some((at, "kill")));
-            assert_eq!(killed.status, -SIGKILL);
-            let renamed = place
-                .calls()
-                .iter()
-                .rev()
-                .skip(1)
-                .any(|call| call.0 == "rename");
-            assert_eq!(place.is_new(&change), renamed);
-            if renamed {
-                new += 1;
-            } else {
-                old += 1;
-            }
-            // What is left behind isn't in the next command's way.
+    for locks in BOTH_LOCKS {
+        let place = Place::new(locks);
+        for change in place.changes() {
             place.run(&change, None).done();
-            assert!(place.is_new(&change) && !place.leftover().exists());
+            for at in 0..place.calls().len() {
+                let killed = place.run(&change, Some((at, "kill")));
+                assert_eq!(killed.status, -SIGKILL);
+                let calls = place.calls();
+                let mut before = calls.iter().rev().skip(1);
+                let put = before.any(|call| ["rename", "link"].contains(&call.0.as_str()));
+                assert_eq!(place.is_new(&change), put);
+                *(if put { &mut new } else { &mut old }) += 1;
+                // Nor is what is left open to more people than the sheet is.
+                for name in temporaries(&place.folder) {
+                    let bits = mode(&place.folder.join(name));
+                    assert!(change.old.is_none() || bits == 0o600, "{bits:o}");
+                }
+                // What is left behind isn't in the next command's way.
+                place.run(&change, None).done();
+                assert!(place.is_new(&change) && !place.has_leftover());
+            }
         }
     }
-    println!(
-        "{} kills: {old} left the old sheet, {new} the new one",
-        old + new
-    );
+    let kills = old + new;
+    println!("{kills} kills: {old} left the old sheet, {new} the new one");
     assert!(old > 0 && new > 0);
+}
+
+/// What a failed call comes to.
+#[derive(Clone, Copy, PartialEq, Eq)]
+enum Outcome {
+    /// The change isn't done, and nothing is left.
+    Failed,
+    /// It is done, but the folder isn't flushed.
+    NotFlushed,
+    /// It is done as if nothing had been.
+    Done,
+}
+
+/// What is to come of an error at a call.
+fn outcome(place: &Place, name: &str, path: &Path) -> Outcome {
+    let temporary = place.folder.join(TEMPORARY);
+    match name {
+        "fsync" if path == place.folder => Outcome::NotFlushed,
+        // The number of the running system, the lock on the temporary file and
+        // its removal are for leftovers: without them one may be left a day.
+        "open" | "read" if path.starts_with("/proc") => Outcome::Done,
+        "flock" | "unlink" if named(path) == temporary => Outcome::Done,
+        _ => Outcome::Failed,
+    }
 }
 
 #[test]
 fn an_error_at_each_step() {
-    let place = Place::new();
     let mut errors = 0;
-    for change in place.changes() {
-        place.run(&change, None).done();
-        let calls = place.calls();
-        for (at, (name, path)) in calls.iter().enumerate() {
-            for errno in [EIO, ENOSPC] {
-                let run = place.run(&change, Some((at, &errno.to_string())));
-                errors += 1;
-                if (name.as_str(), path) == ("fsync", &place.folder) {
-                    // The one failure after the rename; its message says so.
-                    assert!(place.is_new(&change));
-                    run.failed(74, "the new sheet is in place");
-                } else {
-                    assert!(!place.is_new(&change), "{name} {path:?}");
-                    run.failed(
-                        74,
-                        if errno == EIO {
-                            "Input/output"
-                        } else {
-                            "No space left"
-                        },
-                    );
+    for locks in BOTH_LOCKS {
+        let place = Place::new(locks);
+        for change in place.changes() {
+            place.run(&change, None).done();
+            for (at, (name, path)) in place.calls().iter().enumerate() {
+                for (errno, words) in [(EIO, "Input/output"), (ENOSPC, "No space left")] {
+                    let run = place.run(&change, Some((at, &errno.to_string())));
+                    errors += 1;
+                    let outcome = outcome(&place, name, path);
+                    let is_new = outcome != Outcome::Failed;
+                    assert_eq!(place.is_new(&change), is_new, "{name} {path:?}");
+                    match outcome {
+                        Outcome::Failed => run.failed(74, words),
+                        Outcome::NotFlushed => run.failed(79, "done, the new file is in place"),
+                        Outcome::Done => run.done(),
+                    }
+                    assert!(!place.has_leftover() || name == "unlink");
+                    for name in temporaries(&place.folder) {
+                        fs::remove_file(place.folder.join(name)).unwrap();
+                    }
                 }
-                assert!(!place.leftover().exists());
             }
         }
     }
     println!("{errors} errors");
 }
 
+/// A folder that can't be flushed at all is told apart from a write that isn't
+/// done, by the status and in words.
+#[test]
+fn a_folder_that_cannot_be_flushed() {
+    for locks in BOTH_LOCKS {
+        let place = Place::new(locks);
+        for change in place.changes() {
+            place.run(&change, None).done();
+            let calls = place.calls();
+            let flushed = ("fsync".to_string(), place.folder.clone());
+            let at = calls.iter().position(|call| *call == flushed).unwrap();
+            let run = place.run(&change, Some((at, &EINVAL.to_string())));
+            assert!(place.is_new(&change) && !place.has_leftover());
+            run.failed(79, "may not outlast a power cut: Invalid argument");
+        }
+    }
+}
+
+/// A system of files without hard links gets its new file by a rename.
+#[test]
+fn a_new_file_where_there_are_no_links() {
+    for locks in BOTH_LOCKS {
+        let place = Place::new(locks);
+        let change = &place.changes()[4];
+        for errno in [EPERM, EOPNOTSUPP] {
+            place.run(change, None).done();
+            let calls = place.calls();
+            let at = calls.iter().position(|call| call.0 == "link").unwrap();
+            place.run(change, Some((at, &errno.to_string()))).done();
+            assert!(place.is_new(change) && !place.has_leftover());
+        }
+    }
+}
+
+/// A system of files without locks: the change is made, with a warning.
+#[test]
+fn a_folder_that_has_no_locks() {
+    let place = Place::new(Locks::Kept);
+    for change in place.changes() {
+        for errno in [ENOLCK, ENOSYS, EOPNOTSUPP] {
+            let mut command = command_with(Locks::Kept);
+            place.lay(&change);
+            command.args(&change.words).env("FAULT_CALL", "flock");
+            command.env("FAULT_HOW", errno.to_string());
+            let run = run_command(command, b"Vase, 1751");
+            assert_eq!(run.status, 0, "{}", run.stderr);
+            assert!(
+                run.stderr.contains("the folder has no lock"),
+                "{}",
+                run.stderr
+            );
+            assert!(place.is_new(&change) && !place.has_leftover());
+        }
+    }
+}
+
 /// A write that takes only a part of the bytes is gone on with.
 #[test]
 fn half_a_write_at_each_step() {
-    let place = Place::new();
-    for change in place.changes() {
-        place.run(&change, None).done();
-        let calls = place.calls();
-        for at in (0..calls.len()).filter(|at| calls[*at].0 == "write") {
-            place.run(&change, Some((at, "short"))).done();
-            assert!(place.is_new(&change));
-            assert!(place.calls().len() > calls.len());
+    for locks in BOTH_LOCKS {
+        let place = Place::new(locks);
+        for change in place.changes() {
+            place.run(&change, None).done();
+            let calls = place.calls();
+            for at in (0..calls.len()).filter(|at| calls[*at].0 == "write") {
+                place.run(&change, Some((at, "short"))).done();
+                assert!(place.is_new(&change));
+                assert!(place.calls().len() > calls.len());
+            }
         }
     }
 }
@@ -245,14 +357,36 @@ fn half_a_write_at_each_step() {
 /// The file is gone at the very moment at which it is opened.
 #[test]
 fn a_file_that_vanishes_at_each_step() {
-    let place = Place::new();
-    let change = &place.changes()[0];
-    place.run(change, None).done();
-    let calls = place.calls();
-    for at in (0..calls.len()).filter(|at| calls[*at].0 == "open" && calls[*at].1 == place.file) {
-        place
-            .run(change, Some((at, &ENOENT.to_string())))
-            .failed(74, "No such file");
-        assert!(!place.is_new(change));
+    for locks in BOTH_LOCKS {
+        let place = Place::new(locks);
+        let change = &place.changes()[0];
+        place.run(change, None).done();
+        let calls = place.calls();
+        for at in (0..calls.len()).filter(|at| calls[*at].0 == "open" && calls[*at].1 == place.file)
+        {
+            place
+                .run(change, Some((at, &ENOENT.to_string())))
+                .failed(74, "No such file");
+            assert!(!place.is_new(change));
+        }
+    }
+}
+
+/// Another command has removed the temporary file, as one on a machine with
+/// another clock could: a failure, and the sheet is as it was.
+#[test]
+fn a_temporary_file_that_vanishes() {
+    for locks in BOTH_LOCKS {
+        let place = Place::new(locks);
+        for change in place.changes() {
+            place.run(&change, None).done();
+            let calls = place.calls();
+            let put = |call: &(String, PathBuf)| call.0 == "rename" || call.0 == "link";
+            let at = calls.iter().position(put).unwrap();
+            place
+                .run(&change, Some((at, &ENOENT.to_string())))
+                .failed(74, "the new file can't be put there: No such file");
+            assert!(!place.is_new(&change));
+        }
     }
 }

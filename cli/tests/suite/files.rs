@@ -3,18 +3,10 @@
 
 use crate::support::*;
 use crate::words;
-use std::fs::{self, File, Permissions};
-use std::os::unix::fs::{chown, symlink, MetadataExt, PermissionsExt};
+use std::fs;
+use std::os::unix::fs::{chown, symlink, MetadataExt};
 use std::path::Path;
-use std::process::{Child, Command, Stdio};
-
-fn set_mode(path: &Path, mode: u32) {
-    fs::set_permissions(path, Permissions::from_mode(mode)).unwrap();
-}
-
-fn mode(path: &Path) -> u32 {
-    fs::metadata(path).unwrap().mode() & 0o7777
-}
+use std::process::Command;
 
 /// Every command on this file fails with 74 and these words.
 #[track_caller]
@@ -104,8 +96,11 @@ fn unprivileged_run(scratch: &Scratch, words: &[std::ffi::OsString], stdin: &[u8
 #[test]
 fn a_read_only_folder() {
     let scratch = Scratch::new();
-    let (file, keys) = (scratch.sheet("sheet", 1, 4), scratch.keys(8));
-    let denied = "Permission denied";
+    let (file, keys) = (scratch.join("sheet"), scratch.keys(8));
+    let sheet = written(&blank_sheet(1, 4), 8, 0, b"Clock");
+    fs::write(&file, &sheet).unwrap();
+    let denied = format!("{}: no file can be made", scratch.path().display());
+    let denied = denied.as_str();
     unprivileged(&scratch);
     set_mode(scratch.path(), 0o555);
     let run = |words: &[std::ffi::OsString]| unprivileged_run(&scratch, words, b"Vase");
@@ -113,9 +108,10 @@ fn a_read_only_folder() {
     run(&words!["clear", file, "0"]).failed(74, denied);
     run(&words!["blank", file, "1", "64", "--force"]).failed(74, denied);
     run(&words!["blank", scratch.join("new"), "1", "64"]).failed(74, denied);
-    run(&words!["list", file]).printed(b"slots 1 key 64 last 0\n0 blank\n");
-    assert_eq!(fs::read(&file).unwrap(), blank_sheet(1, 4));
-    assert!(!scratch.names().contains(&TEMPORARY.to_string()));
+    run(&words!["keys", scratch.join("new"), "64"]).failed(74, denied);
+    run(&words!["list", file]).printed(b"slots 1 key 64 last 1\n0 written 1 5\n");
+    assert_eq!(fs::read(&file).unwrap(), sheet);
+    assert!(temporaries(scratch.path()).is_empty());
     set_mode(scratch.path(), 0o755);
     run(&words!["write", file, "0", keys]).done();
 }
@@ -281,44 +277,7 @@ fn a_hard_link_stays_with_the_old_sheet() {
     assert_eq!(fs::read(&other).unwrap(), blank_sheet(1, 4));
 }
 
-// ---- The temporary file ----
-
-#[test]
-fn a_leftover_temporary_file_is_removed() {
-    let scratch = Scratch::new();
-    let (file, keys) = (scratch.sheet("sheet", 1, 4), scratch.keys(8));
-    let (leftover, elsewhere) = (scratch.join(TEMPORARY), scratch.join("elsewhere"));
-    fs::write(&elsewhere, "untouched").unwrap();
-    for change in [
-        words!["write", file, "0", keys].to_vec(),
-        words!["clear", file, "0"].to_vec(),
-        words!["blank", file, "1", "64", "--force"].to_vec(),
-    ] {
-        fs::write(&leftover, vec![7; 100_000]).unwrap();
-        set_mode(&leftover, 0o400);
-        run_with(&change, b"Vase").done();
-        // A link in its place is removed, and what it names isn't touched.
-        symlink(&elsewhere, &leftover).unwrap();
-        run_with(&change, b"Vase").done();
-        assert_eq!(scratch.names(), ["elsewhere", "keys-8", "sheet"]);
-        assert_eq!(fs::read(&elsewhere).unwrap(), b"untouched");
-    }
-}
-
-#[test]
-fn a_temporary_name_that_cannot_be_had() {
-    let scratch = Scratch::new();
-    let (file, keys) = (scratch.sheet("sheet", 1, 4), scratch.keys(8));
-    let temporary = scratch.join(TEMPORARY);
-    fs::create_dir(&temporary).unwrap();
-    run_with(&words!["write", file, "0", keys], b"Vase").failed(74, TEMPORARY);
-    assert_eq!(fs::read(&file).unwrap(), blank_sheet(1, 4));
-    fs::remove_dir(&temporary).unwrap();
-    fs::write(&temporary, blank_sheet(1, 4)).unwrap();
-    run(&words!["clear", temporary, "0"]).failed(74, "the temporary file's name");
-    run(&words!["blank", temporary, "1", "64", "--force"]).failed(74, "the temporary file's name");
-    assert_eq!(fs::read(&temporary).unwrap(), blank_sheet(1, 4));
-}
+// ---- Names ----
 
 #[test]
 fn the_longest_name_will_do() {
@@ -330,83 +289,37 @@ fn the_longest_name_will_do() {
     run(&words!["blank", scratch.join("s".repeat(256)), "1", "64"]).failed(74, "too long");
 }
 
-// ---- Things that vanish while the command waits for the folder's lock ----
-
-fn waiting(words: &[std::ffi::OsString]) -> Child {
-    let child = Command::new(PROGRAM)
-        .args(words)
-        .stdin(Stdio::null())
-        .stdout(Stdio::piped())
-        .stderr(Stdio::piped())
-        .spawn()
-        .unwrap();
-    // Long enough for the command to come to the lock. Where it doesn't, it
-    // finds the same things gone, a little earlier.
-    std::thread::sleep(std::time::Duration::from_millis(100));
-    child
-}
-
+/// A name that ends as a folder's does isn't made a file's.
 #[test]
-fn a_file_that_vanishes_is_not_made_again() {
+fn a_folders_name_is_no_new_sheets() {
     let scratch = Scratch::new();
-    let (file, keys) = (scratch.sheet("sheet", 1, 4), scratch.keys(8));
-    let folder = File::open(scratch.path()).unwrap();
-    folder.lock().unwrap();
-    let child = waiting(&words!["write", file, "0", keys]);
-    fs::remove_file(&file).unwrap();
-    folder.unlock().unwrap();
-    Run::of(child.wait_with_output().unwrap()).failed(74, "No such file or directory");
-    assert_eq!(scratch.names(), ["keys-8"]);
-}
-
-#[test]
-fn a_folder_that_vanishes() {
-    let scratch = Scratch::new();
-    let keys = scratch.keys(8);
-    let folder = scratch.join("folder");
-    for change in [
-        words!["write", folder.join("sheet"), "0", keys].to_vec(),
-        words!["clear", folder.join("sheet"), "0"].to_vec(),
-        words!["blank", folder.join("new"), "1", "64"].to_vec(),
-    ] {
-        fs::create_dir(&folder).unwrap();
-        fs::write(folder.join("sheet"), blank_sheet(1, 4)).unwrap();
-        let handle = File::open(&folder).unwrap();
-        handle.lock().unwrap();
-        let child = waiting(&change);
-        fs::remove_dir_all(&folder).unwrap();
-        handle.unlock().unwrap();
-        Run::of(child.wait_with_output().unwrap()).failed(74, "No such file or directory");
-        assert_eq!(scratch.names(), ["keys-8"]);
+    for end in ["/", "//", "/."] {
+        let mut name = scratch.join("new").into_os_string();
+        name.push(end);
+        let message = "a folder's name, not a file's";
+        run(&words!["blank", name, "1", "64"]).failed(74, message);
+        run(&words!["blank", name, "1", "64", "--force"]).failed(74, message);
+        run(&words!["keys", name, "64"]).failed(74, message);
     }
+    run(&words!["blank", scratch.join("new/.."), "1", "64"]).failed(74, "No such file");
+    assert!(scratch.names().is_empty());
 }
 
-/// A file that appears meanwhile isn't blanked without --force.
+/// What is wrong with the folder is said of the folder.
 #[test]
-fn a_file_that_appears() {
+fn a_message_names_the_folder_if_it_is_the_folders_fault() {
     let scratch = Scratch::new();
-    let file = scratch.join("sheet");
-    let folder = File::open(scratch.path()).unwrap();
-    folder.lock().unwrap();
-    let child = waiting(&words!["blank", file, "1", "64"]);
-    fs::write(&file, "another's").unwrap();
-    folder.unlock().unwrap();
-    Run::of(child.wait_with_output().unwrap()).failed(74, "exists");
-    assert_eq!(fs::read(&file).unwrap(), b"another's");
-}
-
-/// A refusal or a failure lets the lock go as well: the next command isn't kept
-/// waiting, and neither is one after a kill.
-#[test]
-fn the_lock_ends_with_the_command() {
-    let scratch = Scratch::new();
-    let (file, keys) = (scratch.sheet("sheet", 1, 4), scratch.keys(8));
-    run(&words!["clear", file, "1"]).refused(6, "no such slot");
-    let folder = File::open(scratch.path()).unwrap();
-    folder.lock().unwrap();
-    let mut first = waiting(&words!["clear", file, "0"]);
-    first.kill().unwrap();
-    first.wait().unwrap();
-    folder.unlock().unwrap();
-    run_with(&words!["write", file, "0", keys], b"Vase").done();
+    let (folder, keys) = (scratch.join("folder"), scratch.keys(8));
+    fs::create_dir(&folder).unwrap();
+    let file = folder.join("sheet");
+    fs::write(&file, blank_sheet(1, 4)).unwrap();
+    run(&words!["blank", scratch.join("none/sheet"), "1", "64"])
+        .failed(74, "none/sheet: its folder: No such file");
+    unprivileged(&scratch);
+    let run = |words: &[std::ffi::OsString]| unprivileged_run(&scratch, words, b"Vase");
+    set_mode(&folder, 0o333);
+    let message = format!("captions: {}: the folder can't be opened", folder.display());
+    run(&words!["write", file, "0", keys]).failed(74, &message);
+    run(&words!["blank", folder.join("new"), "1", "64"]).failed(74, &message);
+    set_mode(&folder, 0o755);
 }

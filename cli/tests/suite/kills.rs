@@ -4,15 +4,21 @@
 use crate::support::*;
 use crate::words;
 use std::fs;
-use std::process::{Command, Stdio};
+use std::process::Stdio;
 use std::time::Duration;
 
-const ROUNDS: usize = 200;
+const ROUNDS: usize = 150;
 const SIGXFSZ: i32 = 25;
 
-/// A largest sheet, so that there is something to tear.
 #[test]
 fn a_kill_at_any_moment_leaves_the_old_sheet_or_the_new_one() {
+    for locks in BOTH_LOCKS {
+        kills_at_any_moment(locks);
+    }
+}
+
+/// A largest sheet, so that there is something to tear.
+fn kills_at_any_moment(locks: Locks) {
     let scratch = Scratch::new();
     let (file, keys) = (scratch.join("sheet"), scratch.keys(8));
     let caption_file = scratch.join("caption");
@@ -23,7 +29,7 @@ fn a_kill_at_any_moment_leaves_the_old_sheet_or_the_new_one() {
     for round in 0..ROUNDS {
         let (slot, caption) = (round % 256, format!("caption {round}"));
         fs::write(&caption_file, &caption).unwrap();
-        let mut child = Command::new(PROGRAM)
+        let mut child = command_with(locks)
             .args(words!["write", file, slot.to_string(), keys])
             .stdin(fs::File::open(&caption_file).unwrap())
             .stdout(Stdio::null())
@@ -45,18 +51,11 @@ fn a_kill_at_any_moment_leaves_the_old_sheet_or_the_new_one() {
             new += 1;
         }
     }
-    println!("{ROUNDS} kills: {old} left the old sheet, {new} the new one");
+    println!("{ROUNDS} kills, locks {locks:?}: {old} left the old sheet, {new} the new one");
     // Whatever was left behind, the next change works and clears it away.
     run(&words!["clear", file, "0"]).done();
     assert_eq!(fs::read(&file).unwrap(), cleared(&sheet, 0));
     assert_eq!(scratch.names(), ["caption", "keys-8", "sheet"]);
-}
-
-/// Runs a shell line in which "$@" is the command.
-fn shell(line: &str, words: &[std::ffi::OsString], stdin: &[u8]) -> Run {
-    let mut command = Command::new("sh");
-    command.args(["-c", line, "sh", PROGRAM]).args(words);
-    run_command(command, stdin)
 }
 
 /// The system itself kills the command in the midst of writing the new sheet,
@@ -65,7 +64,7 @@ fn shell(line: &str, words: &[std::ffi::OsString], stdin: &[u8]) -> Run {
 fn a_limit_on_the_size_of_files() {
     let scratch = Scratch::new();
     let (file, keys) = (scratch.join("sheet"), scratch.keys(8));
-    let sheet = blank_sheet(256, 4);
+    let sheet = written(&blank_sheet(256, 4), 8, 0, b"Clock");
     for blocks in ["0", "1", "20"] {
         for change in [
             words!["write", file, "0", keys].to_vec(),

@@ -1,10 +1,19 @@
 //! The command, run as at a shell.
 
+mod attributes;
 mod commands;
 mod faults;
 mod files;
+mod help;
+mod keys;
 mod kills;
+mod leftovers;
+mod listing;
 mod refusals;
+mod streams;
 mod support;
+mod table;
+mod terminal;
 mod together;
 mod usage;
+mod waiting;

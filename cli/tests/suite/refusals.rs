@@ -20,8 +20,7 @@ fn refused(words: &[OsString], stdin: &[u8], file: &Path, number: i32, word: &st
     let before = state(file);
     run_with(words, stdin).refused(number, word);
     assert_eq!(state(file), before);
-    let folder = names_in(file.parent().unwrap());
-    assert!(!folder.contains(&TEMPORARY.to_string()));
+    assert!(temporaries(file.parent().unwrap()).is_empty());
 }
 
 #[test]

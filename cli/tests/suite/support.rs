@@ -1,17 +1,20 @@
 //! Scratch folders, keys, and running the command.
 
-use std::ffi::OsStr;
+use std::ffi::{c_int, OsStr};
 use std::fs;
 use std::io::Write;
+use std::os::fd::AsRawFd;
 use std::os::unix::fs::{MetadataExt, PermissionsExt};
 use std::os::unix::process::{CommandExt, ExitStatusExt};
 use std::path::{Path, PathBuf};
 use std::process::{Command, Output, Stdio};
 use std::sync::atomic::{AtomicUsize, Ordering};
+use std::sync::OnceLock;
+use std::time::{Duration, Instant};
 
 pub const PROGRAM: &str = env!("CARGO_BIN_EXE_captions");
-/// The temporary file's name, as the help text gives it.
-pub const TEMPORARY: &str = ".captions-new";
+/// What a temporary file's name begins with, as the help text gives it.
+pub const TEMPORARY: &str = ".captions-new-";
 
 pub const SEALING: [u8; 16] = *b"\x0d\x2a\x47\x64\x81\x9e\xbb\xd8\xf5\x12\x2f\x4c\x69\x86\xa3\xc0";
 pub const CHECKING: [u8; 16] = *b"\x10\x0f\x0e\x0d\x0c\x0b\x0a\x09\x08\x07\x06\x05\x04\x03\x02\x01";
@@ -61,6 +64,7 @@ impl Scratch {
     pub fn key_file(&self, name: &str, sealing: &[u8], checking: &[u8]) -> PathBuf {
         let path = self.join(name);
         fs::write(&path, format!("{}\n{}\n", hex(sealing), hex(checking))).unwrap();
+        set_mode(&path, 0o600);
         path
     }
 
@@ -77,6 +81,21 @@ impl Drop for Scratch {
         let _ = fs::set_permissions(&self.0, fs::Permissions::from_mode(0o700));
         let _ = fs::remove_dir_all(&self.0);
     }
+}
+
+/// The temporary files in a folder.
+pub fn temporaries(folder: &Path) -> Vec<String> {
+    let mut names = names_in(folder);
+    names.retain(|name| name.starts_with(TEMPORARY));
+    names
+}
+
+pub fn set_mode(path: &Path, mode: u32) {
+    fs::set_permissions(path, fs::Permissions::from_mode(mode)).unwrap();
+}
+
+pub fn mode(path: &Path) -> u32 {
+    fs::metadata(path).unwrap().mode() & 0o7777
 }
 
 pub fn names_in(folder: &Path) -> Vec<String> {
@@ -190,6 +209,87 @@ pub fn run_command(mut command: Command, stdin: &[u8]) -> Run {
     // The command may end, or stop reading, before a long input does.
     let _ = child.stdin.take().unwrap().write_all(stdin);
     Run::of(child.wait_with_output().unwrap())
+}
+
+/// Runs a shell line in which "$@" is the command.
+pub fn shell<W: AsRef<OsStr>>(line: &str, words: &[W], stdin: &[u8]) -> Run {
+    let mut command = Command::new("sh");
+    command.args(["-c", line, "sh", PROGRAM]).args(words);
+    run_command(command, stdin)
+}
+
+/// A file or folder that is locked, as the command does it, until this is
+/// dropped. It is unlocked and not only closed: a child that another thread is
+/// starting has it open too, for a moment.
+pub struct Locked(fs::File);
+
+impl Locked {
+    pub fn new(path: &Path) -> Locked {
+        const LOCK_EX: c_int = 2;
+        let file = fs::File::open(path).unwrap();
+        assert_eq!(flock_by(&file, LOCK_EX), 0);
+        Locked(file)
+    }
+}
+
+impl Drop for Locked {
+    fn drop(&mut self) {
+        const LOCK_UN: c_int = 8;
+        assert_eq!(flock_by(&self.0, LOCK_UN), 0);
+    }
+}
+
+fn flock_by(file: &fs::File, operation: c_int) -> c_int {
+    extern "C" {
+        fn flock(file: c_int, operation: c_int) -> c_int;
+    }
+    // SAFETY: the descriptor is open, and no memory is touched.
+    unsafe { flock(file.as_raw_fd(), operation) }
+}
+
+/// The library that is preloaded to bring about faults; `fault.c` says which.
+pub fn fault_library() -> &'static Path {
+    static LIBRARY: OnceLock<PathBuf> = OnceLock::new();
+    LIBRARY.get_or_init(|| {
+        let library = Path::new(env!("CARGO_TARGET_TMPDIR")).join("fault.so");
+        let source = concat!(env!("CARGO_MANIFEST_DIR"), "/tests/suite/fault.c");
+        let mut command = Command::new("cc");
+        command.args(["-shared", "-fPIC", "-Wall", "-Wextra", "-Werror", "-o"]);
+        let status = command.arg(&library).args([source, "-ldl"]).status();
+        assert!(status.unwrap().success());
+        library
+    })
+}
+
+/// Whom a folder's lock keeps out.
+#[derive(Clone, Copy, Debug, PartialEq, Eq)]
+pub enum Locks {
+    /// Everybody, as on one machine.
+    Kept,
+    /// Nobody, as in a network folder.
+    Disabled,
+}
+
+pub const BOTH_LOCKS: [Locks; 2] = [Locks::Kept, Locks::Disabled];
+
+/// The command, with locks that are kept or not.
+pub fn command_with(locks: Locks) -> Command {
+    let mut command = Command::new(PROGRAM);
+    command.env("LD_PRELOAD", fault_library());
+    if locks == Locks::Disabled {
+        command.env("FAULT_LOCK", "disabled");
+    }
+    command
+}
+
+/// Waits until something is so. Where that doesn't come, the test fails.
+#[track_caller]
+pub fn until(what: &str, mut is_so: impl FnMut() -> bool) {
+    let end = Instant::now() + Duration::from_secs(20);
+    while !is_so() {
+        assert!(Instant::now() < end, "waited in vain: {what}");
+        std::thread::sleep(Duration::from_millis(2));
+    }
 }
 
 /// Whether the tests run as root, whom permission bits don't bind.

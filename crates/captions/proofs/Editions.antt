@@ -5,25 +5,24 @@ use mathlib.Core.Bool.{true}
 use mathlib.Core.List.{List}
 use native.Mathlib.Omega.{arith}
 use Rattle.octets.specs.Bytes.{number}
-use Rattle.octets.proofs.Bool.{and-left}
 use Rattle.cipher.specs.Key.{classKnown}
 use Rattle.layout.specs.Layout.{edition1, rule1, editionOf, editionByte, keyClass, fit}
+use Rattle.layout.proofs.Header.{edition-cases}
+use Rattle.layout.proofs.Fits.{fit-facts, fits-class}
 use Rattle.captions.specs.Claim.{SameHeader, Regular}
 use Rattle.captions.proofs.Store.{keyClass-kept}
-use Rattle.captions.proofs.Fitted.{fit-rules}
 
 editionByte-kept : {h : ℕ} {s s′ : List ℕ} → SameHeader h s s′ → editionByte s ≡ editionByte s′
 unfolding editionByte
 editionByte-kept k = ap number (k .low 3 1 (omega arith))
 
-edition1-regular : Regular edition1
+pub edition1-regular : Regular edition1
 unfolding rule1
 edition1-regular =
     record { header-size = omega arith; rule-kept = λ s s′ h. rw (keyClass-kept h, editionByte-kept h); tail-kept = λ s s′ h. refl }
 
 pub editions-regular : (s : List ℕ) → Regular (editionOf s)
-unfolding editionOf
-editions-regular s = edition1-regular
+editions-regular s = edition-cases Regular s edition1-regular
 
 pub edition-kept : (s s′ : List ℕ) → SameHeader ((editionOf s) .header) s s′ → editionOf s ≡ editionOf s′
 unfolding editionOf
@@ -31,5 +30,4 @@ edition-kept s s′ h = refl
 
 -- the class of a fit sheet is known
 pub fit-class : (s : List ℕ) → fit s ≡ true → classKnown (keyClass s) ≡ true
-unfolding fit editionOf rule1
-fit-class s h = and-left (classKnown (keyClass s)) _ ((fit-rules edition1 s h) .rule)
+fit-class s h = fits-class s (fit-facts s h)

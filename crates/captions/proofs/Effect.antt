@@ -4,128 +4,131 @@ use Prim.Native.Nat.{ℕ, _+_, _^_, _≤_, _<_}
 use mathlib.Core.Path.{_≡_, refl, sym, ap}
 use mathlib.Core.Logic.{_≢_}
 use mathlib.Core.Bool.{true, false, not}
-use mathlib.Core.List.{List, [], _∷_, _++_}
+use mathlib.Core.List.{List}
 use native.Mathlib.Nat.{le-refl}
 use native.Mathlib.Omega.{arith}
-use lib.Dec.{eqb}
 use lib.ListN.{length}
 use borrow.Author.Tests.{lt-leb, eq-eqb}
 use Rattle.octets.specs.Bytes.{Bytes, zeros}
-use Rattle.octets.specs.Outcome.{Row, _gives_, decided}
+use Rattle.octets.specs.Outcome.{decided}
 use Rattle.octets.proofs.Compare.{same-self}
 use Rattle.octets.proofs.Numbers.{number-part-lt}
 use Rattle.octets.proofs.Zeros.{length-zeros, zeros-bytes}
 use Rattle.modes.specs.Laws.{ByteBlocks}
-use Rattle.layout.specs.Layout.{Edition, slots, lastWrite, mark, field, blankSlot, storeSlot, storeLast}
+use Rattle.layout.specs.Layout.{Edition, slots, lastWrite, blankSlot, storeSlot, storeLast}
+use Rattle.layout.proofs.Fits.{Rules, fit-rules, rules-fit}
 use Rattle.captions.specs.Answers.{firstOf}
 use Rattle.captions.specs.Captions.{Keys, Ciphers, padded, sealedField, openedField, checkOf, slotMark, storedAs, written, opened, altered, cleared}
-use Rattle.captions.specs.Calls.{keyTests, otherClass, sheetTests, readTests, readingWith}
+use Rattle.captions.specs.Calls.{keyTests, otherClass, classTests, pairTests, sheetTests, windowTests, openTests, readTests, readingWith}
 use Rattle.captions.specs.Model.{Page, blank, holds}
 use Rattle.captions.specs.Claim.{SameHeader, Regular, Sound, Fits, shown}
-use Rattle.captions.specs.declared.Answer.{Answer}
-use Rattle.captions.specs.declared.Answer.the-variants.{WrongSpan, OtherKeyClass}
 use Rattle.captions.specs.declared.Verdict.the-variants.{Pass, Refuse}
 use Rattle.captions.proofs.Tables.{Unmet, end, next, unmet-append, unmet-left, unmet-right, unmet-first, answers-all, decided-past, decided-past-both, decided-accepted}
 use Rattle.captions.proofs.Store.{Stored, keyClass-kept, slots-kept, store-slot, store-last, storeSlot-bytes, storeLast-bytes}
-use Rattle.captions.proofs.Fitted.{Rules, fit-rules, rules-fit, slotFits, stored-rules}
+use Rattle.captions.proofs.Fitted.{slotFits, stored-rules}
 use Rattle.captions.proofs.Slot.{zeros-blank, zeros-fit, padded-rest, sealed-blocks, opened-sealed, slotMark-block, slotMark-number, slotMark-length, slotMark-check, slotMark-fits, slotMark-not-blank}
 
 -- from s to s′: last write number w, slot j shows the page p, every other slot what it showed
 pub record Effect (e : Edition) (x : Ciphers) (k : Keys) (j w : ℕ) (p : Page) (s s′ : List ℕ) : Type 0 where
-  pub fits : Fits e k s′
+  pub fits : Fits e x k s′
   pub header : SameHeader (e .header) s s′
   pub last : lastWrite s′ ≡ w
   pub at : (window : List ℕ) → length window ≡ 192 → readingWith e x k s′ j window ≡ shown p
   pub others : (i : ℕ) → i < slots s → i ≢ j → (window : List ℕ) → length window ≡ 192 → readingWith e x k s′ i window ≡ readingWith e x k s i window
 
--- tests 1 to 6 of a read
-abbrev pub readFirst : Edition → Keys → List ℕ → ℕ → List ℕ → List (Row Answer)
-readFirst e k s i window = keyTests k ++ ((not (eqb (length window) 192) gives WrongSpan) ∷ sheetTests e k s i)
-
 -- ---- a fit sheet that the pair serves
 
-module _ (e : Edition) (k : Keys) (s : List ℕ) (g : Fits e k s) where
+module _ (e : Edition) (x : Ciphers) (k : Keys) (s : List ℕ) (passes : firstOf (pairTests e x k s) ≡ Pass) where
+  pair-passed : Unmet (pairTests e x k s)
+  unfolding firstOf
+  pair-passed =
+      decided-accepted (pairTests e x k s) Pass Refuse Pass (answers-all (λ a q. let z : _≡_ {A = ℕ} 0 1 = cc in omega arith) (pairTests e x k s)) passes
+
+  pub keys-passed : Unmet (keyTests k)
+  unfolding pairTests
+  keys-passed = unmet-left (keyTests k) (classTests e x k s) pair-passed
+
+  pub classes-passed : Unmet (classTests e x k s)
+  unfolding pairTests
+  classes-passed = unmet-right (keyTests k) (classTests e x k s) pair-passed
+
+  pub class-passed : otherClass k s ≡ false
+  unfolding classTests
+  class-passed = unmet-first classes-passed
+
+module _ (e : Edition) (x : Ciphers) (k : Keys) (s : List ℕ) (g : Fits e x k s) where
   pub rules : Rules e s
   rules = fit-rules e s (g .fits)
 
-  passed : Unmet (keyTests k ++ ((otherClass k s gives OtherKeyClass) ∷ []))
-  unfolding firstOf
-  passed = decided-accepted (keyTests k ++ ((otherClass k s gives OtherKeyClass) ∷ [])) Pass Refuse Pass
-      (answers-all (λ a q. let z : _≡_ {A = ℕ} 0 1 = cc in omega arith) (keyTests k ++ ((otherClass k s gives OtherKeyClass) ∷ []))) (g .passes)
-
-  pub keys-passed : Unmet (keyTests k)
-  keys-passed = unmet-left (keyTests k) ((otherClass k s gives OtherKeyClass) ∷ []) passed
-
-  pub class-passed : otherClass k s ≡ false
-  class-passed = unmet-first (unmet-right (keyTests k) ((otherClass k s gives OtherKeyClass) ∷ []) passed)
-
-  pub sheet-passed : (i : ℕ) → i < slots s → Unmet (sheetTests e k s i)
+  pub sheet-passed : (i : ℕ) → i < slots s → Unmet (sheetTests e x k s i)
   unfolding sheetTests
-  sheet-passed i h = next (ap not (g .fits)) (next class-passed (next (lt-leb (slots s) i h) end))
+  sheet-passed i h = next (ap not (g .fits)) (unmet-append (classes-passed e x k s (g .passes)) (next (lt-leb (slots s) i h) end))
 
   pub last-small : lastWrite s ≤ 4294967295
   unfolding lastWrite
   last-small = let h : 4 + 4 ≤ length s = omega (arith, rules .long) in omega (arith, number-part-lt s 4 4 h (g .bytes))
 
-  read-passed : (i : ℕ) (window : List ℕ) → i < slots s → length window ≡ 192 → Unmet (readFirst e k s i window)
-  read-passed i window h l = unmet-append keys-passed (next (ap not (eq-eqb (length window) 192 l)) (sheet-passed i h))
+  read-passed : (i : ℕ) (window : List ℕ) → i < slots s → length window ≡ 192 → Unmet (windowTests e x k s i (length window))
+  unfolding windowTests
+  read-passed i window h l = unmet-append (keys-passed e x k s (g .passes)) (next (ap not (eq-eqb (length window) 192 l)) (sheet-passed i h))
 
   -- a blank slot
-  pub blank-read : (x : Ciphers) (i : ℕ) (window : List ℕ) → i < slots s → length window ≡ 192 → blankSlot e s i ≡ true → readingWith e x k s i window ≡ shown blank
-  unfolding readingWith readTests keyTests sheetTests shown
-  blank-read x i window h l b =
-      decided-past (readFirst e k s i window) _ _ _ _ (read-passed i window h l)
+  pub blank-read : (i : ℕ) (window : List ℕ) → i < slots s → length window ≡ 192 → blankSlot e s i ≡ true → readingWith e x k s i window ≡ shown blank
+  unfolding readingWith readTests openTests windowTests keyTests sheetTests classTests shown
+  blank-read i window h l b =
+      decided-past (windowTests e x k s i (length window)) _ _ _ _ (read-passed i window h l)
       (unfold decided in rw (b, l))
 
 -- ---- a slot stored
 
-module _ (e : Edition) (reg : Regular e) (k : Keys) (s : List ℕ) (g : Fits e k s) where
-  otherClass-kept : {s′ : List ℕ} → SameHeader (e .header) s s′ → otherClass k s ≡ otherClass k s′
-  unfolding otherClass
-  otherClass-kept h = rw (keyClass-kept h)
+module _ (e : Edition) (reg : Regular e) (x : Ciphers) (k : Keys) (s : List ℕ) (g : Fits e x k s) where
+  -- the tests of a pair look at bytes of the header that a call keeps
+  pair-kept : {s′ : List ℕ} → SameHeader (e .header) s s′ → pairTests e x k s ≡ pairTests e x k s′
+  unfolding pairTests classTests otherClass
+  pair-kept h = rw (keyClass-kept h)
 
   module _ (j w : ℕ) (m f s′ : List ℕ) (st : Stored e j w m f s s′) where
-    stored-fits : Bytes s′ → lastWrite s ≤ w → slotFits w m f ≡ true → Fits e k s′
+    stored-fits : Bytes s′ → lastWrite s ≤ w → slotFits w m f ≡ true → Fits e x k s′
     stored-fits b grows h =
         record {
           bytes = b;
-          fits = rules-fit e s′ (stored-rules e reg j w m f s s′ (rules e k s g) st grows h);
-          passes = rw (← otherClass-kept (st .header)) (g .passes);
+          fits = rules-fit e s′ (stored-rules e reg j w m f s s′ (rules e x k s g) st grows h);
+          passes = rw (← pair-kept (st .header)) (g .passes);
         }
 
-    stored-others : (x : Ciphers) → Fits e k s′ → (i : ℕ) → i < slots s → i ≢ j → (window : List ℕ) → length window ≡ 192
+    stored-others : Fits e x k s′ → (i : ℕ) → i < slots s → i ≢ j → (window : List ℕ) → length window ≡ 192
         → readingWith e x k s′ i window ≡ readingWith e x k s i window
-    unfolding readingWith readTests keyTests sheetTests
-    stored-others x g′ i h d window l =
-        decided-past-both (readFirst e k s′ i window) (readFirst e k s i window) _ _ _ _ _ _
-        (read-passed e k s′ g′ i window (omega (arith, slots-kept (st .header))) l) (read-passed e k s g i window h l)
+    unfolding readingWith readTests openTests windowTests keyTests sheetTests classTests
+    stored-others g′ i h d window l =
+        decided-past-both (windowTests e x k s′ i (length window)) (windowTests e x k s i (length window)) _ _ _ _ _ _
+        (read-passed e x k s′ g′ i window (omega (arith, slots-kept (st .header))) l) (read-passed e x k s g i window h l)
         (unfold blankSlot altered opened in rw (st .mark-other i h d, st .field-other i h d, reg .tail-kept s s′ (st .header)))
 
   -- a clear
-  pub clear-effect : (x : Ciphers) (j : ℕ) → j < slots s → Effect e x k j (lastWrite s) blank s (cleared e s j)
+  pub clear-effect : (j : ℕ) → j < slots s → Effect e x k j (lastWrite s) blank s (cleared e s j)
   unfolding cleared blankSlot
-  clear-effect x j h =
+  clear-effect j h =
       record {
         fits = g′;
         header = st .header;
         last = st .last;
-        at = λ window l. blank-read e k s′ g′ x j window (omega (arith, slots-kept (st .header))) l (rw (st .mark-at, st .field-at) zeros-blank);
-        others = stored-others j (lastWrite s) (zeros 16) (zeros 192) s′ st x g′;
+        at = λ window l. blank-read e x k s′ g′ j window (omega (arith, slots-kept (st .header))) l (rw (st .mark-at, st .field-at) zeros-blank);
+        others = stored-others j (lastWrite s) (zeros 16) (zeros 192) s′ st g′;
       }
     where
       s′ : List ℕ
       s′ = storeSlot e s j (zeros 16) (zeros 192)
 
       st : Stored e j (lastWrite s) (zeros 16) (zeros 192) s s′
-      st = store-slot e s (reg .header-size) ((rules e k s g) .size) j (zeros 16) (zeros 192) h (length-zeros 16) (length-zeros 192)
+      st = store-slot e s (reg .header-size) ((rules e x k s g) .size) j (zeros 16) (zeros 192) h (length-zeros 16) (length-zeros 192)
 
-      g′ : Fits e k s′
+      g′ : Fits e x k s′
       g′ = stored-fits j (lastWrite s) (zeros 16) (zeros 192) s′ st (storeSlot-bytes e j (g .bytes) (zeros-bytes 16) (zeros-bytes 192)) (le-refl (lastWrite s)) (zeros-fit (lastWrite s))
 
 -- ---- a slot written
 
 -- what a write of number w, slot j and caption c stores in s reads as that caption
-module _ (e : Edition) (reg : Regular e) (k : Keys) (s : List ℕ) (g : Fits e k s) (x : Ciphers) (ok : Sound x) (w j : ℕ) (c f : List ℕ)
+module _ (e : Edition) (reg : Regular e) (x : Ciphers) (k : Keys) (s : List ℕ) (g : Fits e x k s) (ok : Sound x) (w j : ℕ) (c f : List ℕ)
     (short : length c ≤ 192) (bc : Bytes c) (positive : 1 ≤ w) (small : w < 256 ^ 4) (is : f ≡ sealedField x (e .tail s) w j c) where
   field-blocks : ByteBlocks 24 f
   field-blocks = rw is (sealed-blocks x ok (e .tail s) w j c short bc)
@@ -135,16 +138,16 @@ module _ (e : Edition) (reg : Regular e) (k : Keys) (s : List ℕ) (g : Fits e k
 
   stored : (j < slots s) → Stored e j w (slotMark x w j c f) f s (storeLast (storeSlot e s j (slotMark x w j c f) f) w)
   stored h =
-      store-last e s (reg .header-size) ((rules e k s g) .size) j (lastWrite s) w (slotMark x w j c f) f (storeSlot e s j (slotMark x w j c f) f)
-      (store-slot e s (reg .header-size) ((rules e k s g) .size) j (slotMark x w j c f) f h ((slotMark-block x ok w j c f short (field-blocks .bytes) small) .size) (field-blocks .size))
+      store-last e s (reg .header-size) ((rules e x k s g) .size) j (lastWrite s) w (slotMark x w j c f) f (storeSlot e s j (slotMark x w j c f) f)
+      (store-slot e s (reg .header-size) ((rules e x k s g) .size) j (slotMark x w j c f) f h ((slotMark-block x ok w j c f short (field-blocks .bytes) small) .size) (field-blocks .size))
       small
 
-  written-read : (s′ : List ℕ) → Fits e k s′ → Stored e j w (slotMark x w j c f) f s s′ → j < slots s → (window : List ℕ) → length window ≡ 192
+  written-read : (s′ : List ℕ) → Fits e x k s′ → Stored e j w (slotMark x w j c f) f s s′ → j < slots s → (window : List ℕ) → length window ≡ 192
       → readingWith e x k s′ j window ≡ shown (holds c)
-  unfolding readingWith readTests keyTests sheetTests shown
+  unfolding readingWith readTests openTests windowTests keyTests sheetTests classTests shown
   written-read s′ g′ st h window l =
       let b : Bytes f = field-blocks .bytes in
-      decided-past (readFirst e k s′ j window) _ _ _ _ (read-passed e k s′ g′ j window (omega (arith, slots-kept (st .header))) l)
+      decided-past (windowTests e x k s′ j (length window)) _ _ _ _ (read-passed e x k s′ g′ j window (omega (arith, slots-kept (st .header))) l)
       (unfold decided blankSlot altered opened in rw (
         st .mark-at,
         st .field-at,
@@ -158,16 +161,16 @@ module _ (e : Edition) (reg : Regular e) (k : Keys) (s : List ℕ) (g : Fits e k
       ))
 
 -- the number is the last write number, or a later one
-pub stored-effect : (e : Edition) → Regular e → (k : Keys) (s : List ℕ) → Fits e k s → (x : Ciphers) → Sound x → (w j : ℕ) (c : List ℕ)
+pub stored-effect : (e : Edition) → Regular e → (x : Ciphers) (k : Keys) (s : List ℕ) → Fits e x k s → Sound x → (w j : ℕ) (c : List ℕ)
     → j < slots s → length c ≤ 192 → Bytes c → 1 ≤ w → lastWrite s ≤ w → w < 256 ^ 4 → Effect e x k j w (holds c) s (storedAs x e s w j c)
 unfolding storedAs
-stored-effect e reg k s g x ok w j c h short bc positive grows small =
+stored-effect e reg x k s g ok w j c h short bc positive grows small =
     record {
       fits = g′;
       header = st .header;
       last = st .last;
-      at = written-read e reg k s g x ok w j c f short bc positive small refl s′ g′ st h;
-      others = stored-others e reg k s g j w m f s′ st x g′;
+      at = written-read e reg x k s g ok w j c f short bc positive small refl s′ g′ st h;
+      others = stored-others e reg x k s g j w m f s′ st g′;
     }
   where
     f : List ℕ
@@ -180,18 +183,18 @@ stored-effect e reg k s g x ok w j c h short bc positive grows small =
     s′ = storeLast (storeSlot e s j m f) w
 
     b : Bytes f
-    b = (field-blocks e reg k s g x ok w j c f short bc positive small refl) .bytes
+    b = (field-blocks e reg x k s g ok w j c f short bc positive small refl) .bytes
 
     st : Stored e j w m f s s′
-    st = stored e reg k s g x ok w j c f short bc positive small refl h
+    st = stored e reg x k s g ok w j c f short bc positive small refl h
 
-    g′ : Fits e k s′
+    g′ : Fits e x k s′
     g′ =
-        stored-fits e reg k s g j w m f s′ st (storeLast-bytes w (storeSlot-bytes e j (g .bytes) ((slotMark-block x ok w j c f short b small) .bytes) b)) grows
+        stored-fits e reg x k s g j w m f s′ st (storeLast-bytes w (storeSlot-bytes e j (g .bytes) ((slotMark-block x ok w j c f short b small) .bytes) b)) grows
         (slotMark-fits x ok w j c f short b small positive)
 
-pub write-effect : (e : Edition) → Regular e → (k : Keys) (s : List ℕ) → Fits e k s → (x : Ciphers) → Sound x → (j : ℕ) (c : List ℕ)
+pub write-effect : (e : Edition) → Regular e → (x : Ciphers) (k : Keys) (s : List ℕ) → Fits e x k s → Sound x → (j : ℕ) (c : List ℕ)
     → j < slots s → length c ≤ 192 → Bytes c → lastWrite s < 4294967295 → Effect e x k j (lastWrite s + 1) (holds c) s (written x e s j c)
 unfolding written
-write-effect e reg k s g x ok j c h short bc more =
-    stored-effect e reg k s g x ok (lastWrite s + 1) j c h short bc (omega arith) (omega arith) (omega arith)
+write-effect e reg x k s g ok j c h short bc more =
+    stored-effect e reg x k s g ok (lastWrite s + 1) j c h short bc (omega arith) (omega arith) (omega arith)

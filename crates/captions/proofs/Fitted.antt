@@ -1,18 +1,13 @@
--- The layout rule by rule, and that a blank or written slot stored in any fit sheet leaves it fit.
+-- A blank or written slot stored in any fit sheet leaves it fit.
 use Prim.Native.Nat.{ℕ, _≤_, _<_}
 use mathlib.Core.Path.{_≡_, refl, sym, _∙_}
 use mathlib.Core.Bool.{Bool, true, false, _&&_, _||_, false≢true}
 use mathlib.Core.List.{List}
 use native.Mathlib.Decide.{ℕ-discrete}
 use native.Mathlib.Omega.{arith}
-use lib.Dec.{leb, eqb}
-use lib.ListN.{length}
-use borrow.Author.Tests.{le-leb, leb-true, eqb-true, eq-eqb}
-use Rattle.octets.specs.Bytes.{part, allZero, allBelow}
-use Rattle.octets.proofs.Bool.{and-left, and-right}
-use Rattle.octets.proofs.Compare.{allBelow-true, allBelow-at}
-use Rattle.octets.proofs.Parts.{length-part}
-use Rattle.layout.specs.Layout.{Edition, slots, lastWrite, markNumber, markLength, writtenMark, sheetSize, markAt, fieldAt, slotCount, mark, field, blankSlot, fitSlot, fitIn}
+use Rattle.octets.specs.Bytes.{allZero}
+use Rattle.layout.specs.Layout.{Edition, slots, lastWrite, writtenMark, mark, field, blankSlot, fitSlot}
+use Rattle.layout.proofs.Fits.{Rules, Written, mark-written, written-mark}
 use Rattle.captions.specs.Claim.{Regular}
 use Rattle.captions.proofs.Store.{Stored, slots-kept}
 
@@ -32,75 +27,7 @@ or-mono : (a b c : Bool) → (b ≡ true → c ≡ true) → a || b ≡ true →
 or-mono true b c f h = refl
 or-mono false b c f h = f h
 
--- ---- the rules
-
-pub record Rules (e : Edition) (s : List ℕ) : Type 0 where
-  pub long : 8 ≤ length s
-  pub count : slotCount (slots s) ≡ true
-  pub rule : e .rule s ≡ true
-  pub size : length s ≡ sheetSize (e .header) (slots s)
-  pub slot : (i : ℕ) → i < slots s → fitSlot e s i ≡ true
-
-module _ (e : Edition) (s : List ℕ) where
-  pub fit-rules : fitIn e s ≡ true → Rules e s
-  unfolding fitIn
-  fit-rules h₀ =
-      let h₁ : slotCount (slots s) && (e .rule s && (eqb (length s) (sheetSize (e .header) (slots s)) && allBelow (slots s) (fitSlot e s))) ≡ true = and-right (leb 8 (length s)) _ h₀ in
-      let h₂ : e .rule s && (eqb (length s) (sheetSize (e .header) (slots s)) && allBelow (slots s) (fitSlot e s)) ≡ true = and-right (slotCount (slots s)) _ h₁ in
-      let h₃ : eqb (length s) (sheetSize (e .header) (slots s)) && allBelow (slots s) (fitSlot e s) ≡ true = and-right (e .rule s) _ h₂ in
-      record {
-        long = leb-true 8 (length s) (and-left (leb 8 (length s)) _ h₀);
-        count = and-left (slotCount (slots s)) _ h₁;
-        rule = and-left (e .rule s) _ h₂;
-        size = eqb-true (length s) (sheetSize (e .header) (slots s)) (and-left (eqb (length s) (sheetSize (e .header) (slots s))) _ h₃);
-        slot = λ i. allBelow-at (fitSlot e s) (slots s) i (and-right (eqb (length s) (sheetSize (e .header) (slots s))) _ h₃);
-      }
-
-  pub rules-fit : Rules e s → fitIn e s ≡ true
-  unfolding fitIn
-  rules-fit r =
-      rw (
-        le-leb 8 (length s) (r .long),
-        r .count,
-        r .rule,
-        eq-eqb (length s) (sheetSize (e .header) (slots s)) (r .size),
-        allBelow-true (fitSlot e s) (slots s) (r .slot),
-      )
-
-  module _ (r : Rules e s) (i : ℕ) (h : i < slots s) where
-    pub length-mark : length (mark e s i) ≡ 16
-    unfolding mark markAt sheetSize
-    length-mark = length-part s (markAt (e .header) i) 16 (omega (arith, r .size))
-
-    pub length-field : length (field e s i) ≡ 192
-    unfolding field fieldAt sheetSize
-    length-field = length-part s (fieldAt (e .header) (slots s) i) 192 (omega (arith, r .size))
-
--- ---- a written mark
-
-pub record Written (w : ℕ) (m : List ℕ) : Type 0 where
-  pub positive : 1 ≤ markNumber m
-  pub at-most : markNumber m ≤ w
-  pub short : markLength m ≤ 192
-  pub pad : allZero (part m 6 2) ≡ true
-
-module _ (w : ℕ) (m : List ℕ) where
-  pub mark-written : writtenMark w m ≡ true → Written w m
-  unfolding writtenMark
-  mark-written h₀ =
-      let h₁ : leb (markNumber m) w && (leb (markLength m) 192 && allZero (part m 6 2)) ≡ true = and-right (leb 1 (markNumber m)) _ h₀ in
-      let h₂ : leb (markLength m) 192 && allZero (part m 6 2) ≡ true = and-right (leb (markNumber m) w) _ h₁ in
-      record {
-        positive = leb-true 1 (markNumber m) (and-left (leb 1 (markNumber m)) _ h₀);
-        at-most = leb-true (markNumber m) w (and-left (leb (markNumber m) w) _ h₁);
-        short = leb-true (markLength m) 192 (and-left (leb (markLength m) 192) _ h₂);
-        pad = and-right (leb (markLength m) 192) _ h₂;
-      }
-
-  pub written-mark : Written w m → writtenMark w m ≡ true
-  unfolding writtenMark
-  written-mark p =
-      rw (le-leb 1 (markNumber m) (p .positive), le-leb (markNumber m) w (p .at-most), le-leb (markLength m) 192 (p .short), p .pad)
+-- ---- written marks
 
 -- a higher last write number does no harm
 written-later : (w v : ℕ) (m : List ℕ) → w ≤ v → writtenMark w m ≡ true → writtenMark v m ≡ true

@@ -8,4 +8,6 @@ pub mod Simulation
 pub mod Editions
 pub mod Agree
 pub mod ReadBack
+pub mod WriteBack
 pub mod BlankSheets
+pub mod Refusals

@@ -9,22 +9,21 @@ use lib.ListN.{length, take, drop, length-drop, take-append-drop}
 use lib.Seq.{length-take-le}
 use borrow.Author.Tests.{leb-false, not-false}
 use Rattle.octets.specs.Bytes.{Bytes, be, number, zeros, part, allZero, same}
-use Rattle.octets.specs.Outcome.{Outcome}
 use Rattle.octets.proofs.Compare.{same-is}
 use Rattle.octets.proofs.EveryByte.{part-bytes}
 use Rattle.octets.proofs.Numbers.{be-zero}
 use Rattle.octets.proofs.Parts.{length-part, part-all, part-add}
 use Rattle.octets.proofs.Zeros.{allZero-is}
 use Rattle.modes.specs.Laws.{ByteBlocks}
-use Rattle.layout.specs.Layout.{Edition, slots, lastWrite, markNumber, markLength, markCheck, writtenMark, markAt, fieldAt, mark, field, blankSlot, fitSlot, fitIn}
-use Rattle.captions.specs.Answers.{answerNumber, answerLength, outcome}
+use Rattle.layout.specs.Layout.{Edition, slots, lastWrite, markNumber, markLength, markCheck, markAt, fieldAt, mark, field, blankSlot, fitIn}
+use Rattle.captions.specs.Answers.{Outcome, answerNumber, answerLength, outcome}
 use Rattle.captions.specs.Captions.{Keys, Ciphers, padded, newMark, startBlock, sealedField, openedField, checkOf, slotMark, opened, altered}
-use Rattle.captions.specs.Calls.{keyTests, otherClass, sheetTests, readTests, readingWith}
+use Rattle.captions.specs.Calls.{keyTests, otherClass, classTests, sheetTests, windowTests, openTests, readTests, readingWith}
 use Rattle.captions.specs.Claim.{Sound}
 use Rattle.captions.specs.declared.Answer.{Answer}
 use Rattle.captions.specs.declared.Answer.the-variants.{Accepted, WrongKey, TwinKeys, WrongSpan, UnfitSheet, OtherKeyClass, NoSuchSlot, Blank, Altered}
 use Rattle.captions.proofs.Tables.{Unmet, end, next, decided-unmet, decided-accepted}
-use Rattle.captions.proofs.Fitted.{Rules, fit-rules, length-mark, length-field, Written, mark-written, or-right}
+use Rattle.layout.proofs.Fits.{Rules, fit-rules, length-mark, length-field, Written, mark-written, not-blank-written}
 use Rattle.captions.proofs.Slot.{start-block, chaining, be-part}
 
 -- what an accepted read has found
@@ -46,13 +45,13 @@ or-false-right : (a b : Bool) → a || b ≡ false → b ≡ false
 or-false-right true b h = absurd (let z : _≡_ {A = ℕ} 0 1 = cc in omega arith)
 or-false-right false b h = h
 
-refusal : (a : Answer) (n : ℕ) (u v : List ℕ) → 1 ≤ answerNumber a → outcome a u ≡ outcome (Accepted n) v → ⊥
+pub refusal : (a : Answer) (n : ℕ) (u v : List ℕ) → 1 ≤ answerNumber a → outcome a u ≡ outcome (Accepted n) v → ⊥
 unfolding outcome answerNumber
 refusal a n u v h q = omega (arith, ap (λ (o : Outcome). o .number) q)
 
 pub accepted-read : (e : Edition) (x : Ciphers) (k : Keys) (s : List ℕ) (i n : ℕ) (window v : List ℕ)
     → readingWith e x k s i window ≡ outcome (Accepted n) v → Read e x k s i n v
-unfolding readingWith readTests keyTests sheetTests outcome answerNumber answerLength
+unfolding readingWith readTests openTests windowTests keyTests sheetTests classTests outcome answerNumber answerLength
 accepted-read e x k s i n window v h = go unmet
   where
     no : (a : Answer) → 1 ≤ answerNumber a → outcome a (zeros (length window)) ≡ outcome (Accepted n) v → ⊥
@@ -94,10 +93,7 @@ module _ (e : Edition) (x : Ciphers) (k : Keys) (s : List ℕ) (i n : ℕ) (v : 
   rules = fit-rules e s (r .fits)
 
   written : Written (lastWrite s) (mark e s i)
-  unfolding fitSlot
-  written =
-      mark-written (lastWrite s) (mark e s i)
-      (or-right (blankSlot e s i) (writtenMark (lastWrite s) (mark e s i)) (rules .slot i (r .slot)) (r .marked))
+  written = mark-written (lastWrite s) (mark e s i) (not-blank-written e s rules i (r .slot) (r .marked))
 
   field-blocks : ByteBlocks 24 (field e s i)
   unfolding field

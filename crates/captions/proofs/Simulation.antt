@@ -11,27 +11,26 @@ use lib.ListN.{length, getD, set, length-set, length-replicate, getD-replicate}
 use lib.Seq.{getD-set-same, getD-set-other}
 use borrow.Author.Tests.{leb-false, ltb-false, eqb-false}
 use Rattle.octets.specs.Bytes.{Bytes}
-use Rattle.octets.specs.Outcome.{Outcome, _gives_}
-use Rattle.layout.specs.Layout.{Edition, slots, lastWrite, fitIn}
-use Rattle.captions.specs.Answers.{answerNumber, answerLength, outcome}
+use Rattle.layout.specs.Layout.{Edition, slots, lastWrite}
+use Rattle.captions.specs.Answers.{Outcome, answerNumber, answerLength, outcome}
 use Rattle.captions.specs.Captions.{Keys, Ciphers, written, cleared}
-use Rattle.captions.specs.Calls.{keyTests, otherClass, sheetTests, writeTests, clearTests, writingWith, clearingWith, readingWith}
+use Rattle.captions.specs.Calls.{unfitRow, keyTests, classTests, sheetTests, captionTests, writeTests, clearTests, writingWith, clearingWith, readingWith}
 use Rattle.captions.specs.Runs.{Reply, finally}
 use Rattle.captions.specs.Model.{Call, writes, clears, Page, blank, holds, Model, newModel, page, answered, modelStep}
 use Rattle.captions.specs.Claim.{stepped, stepWith, Captions, none, write, clear, shown, SameHeader, Regular, Sound, Fits, SheetsFollowModel}
 use Rattle.captions.specs.declared.Answer.{Answer}
-use Rattle.captions.specs.declared.Answer.the-variants.{Accepted, UnfitSheet, OtherKeyClass, NoSuchSlot, Overlong, Worn}
+use Rattle.captions.specs.declared.Answer.the-variants.{Accepted, NoSuchSlot, Overlong, Worn}
 use Rattle.captions.proofs.Runs.{Every, done, more, same-replies, related-finally}
 use Rattle.captions.proofs.Tables.{end, next, unmet-append, past-rows, row-beside, rows-end}
 use Rattle.captions.proofs.Store.{header-refl, header-trans, slots-kept}
 use Rattle.captions.proofs.Fitted.{unused-blank}
-use Rattle.captions.proofs.Effect.{Effect, rules, keys-passed, class-passed, last-small, blank-read, clear-effect, write-effect}
+use Rattle.captions.proofs.Effect.{Effect, rules, keys-passed, classes-passed, last-small, blank-read, clear-effect, write-effect}
 
 -- ---- a sheet and a model
 
 -- the sheet s, come from s₀, shows the model m
 pub record Shows (e : Edition) (x : Ciphers) (k : Keys) (s₀ s : List ℕ) (m : Model) : Type 0 where
-  pub fits : Fits e k s
+  pub fits : Fits e x k s
   pub header : SameHeader (e .header) s₀ s
   pub last : lastWrite s ≡ m .count
   pub pages : length (m .pages) ≡ slots s
@@ -89,25 +88,25 @@ module _ (e : Edition) (reg : Regular e) (x : Ciphers) (ok : Sound x) (k : Keys)
   clear-follows : (i : ℕ) → Follows e x k s₀ (clearingWith e s i) (modelStep (clears i) m)
   unfolding clearingWith clearTests modelStep answerNumber answerLength
   clear-follows i =
-      past-rows (Follows e x k s₀) ((not (fitIn e s) gives UnfitSheet) ∷ []) _ _ _ _ (next (ap not (r .fits .fits)) end)
+      past-rows (Follows e x k s₀) (unfitRow e s ∷ []) _ _ _ _ (next (ap not (r .fits .fits)) end)
       (row-beside (Follows e x k s₀) (leb (slots s) i) (leb (length (m .pages)) i) NoSuchSlot _ _ _ _ _ (slot-test i) (refused NoSuchSlot 6 refl refl) λ t₆.
       let h : i < slots s = omega (arith, leb-false (length (m .pages)) i t₆, r .pages) in
       rows-end (Follows e x k s₀) _ _ _ (accepted (cleared e s i) _ (effect-shows i (m .count) blank (cleared e s i) h
-      (subst (λ (n : ℕ). Effect e x k i n blank s (cleared e s i)) (r .last) (clear-effect e reg k s (r .fits) x i h)))))
+      (subst (λ (n : ℕ). Effect e x k i n blank s (cleared e s i)) (r .last) (clear-effect e reg x k s (r .fits) i h)))))
 
   write-follows : (i : ℕ) (c : List ℕ) → Bytes c → Follows e x k s₀ (writingWith e x k s i c) (modelStep (writes i c) m)
-  unfolding writingWith writeTests keyTests sheetTests modelStep answerNumber answerLength
+  unfolding writingWith writeTests keyTests sheetTests classTests captionTests modelStep answerNumber answerLength
   write-follows i c bc =
-      past-rows (Follows e x k s₀) (keyTests k ++ ((not (fitIn e s) gives UnfitSheet) ∷ (otherClass k s gives OtherKeyClass) ∷ [])) _ _ _ _
-      (unmet-append (keys-passed e k s (r .fits)) (next (ap not (r .fits .fits)) (next (class-passed e k s (r .fits)) end)))
+      past-rows (Follows e x k s₀) (keyTests k ++ (unfitRow e s ∷ classTests e x k s)) _ _ _ _
+      (unmet-append (keys-passed e x k s (r .fits .passes)) (next (ap not (r .fits .fits)) (classes-passed e x k s (r .fits .passes))))
       (row-beside (Follows e x k s₀) (leb (slots s) i) (leb (length (m .pages)) i) NoSuchSlot _ _ _ _ _ (slot-test i) (refused NoSuchSlot 6 refl refl) λ t₆.
       row-beside (Follows e x k s₀) (ltb 192 (length c)) (ltb 192 (length c)) Overlong _ _ _ _ _ refl (refused Overlong 7 refl refl) λ t₇.
       row-beside (Follows e x k s₀) (eqb (lastWrite s) 4294967295) (eqb (m .count) 4294967295) Worn _ _ _ _ _ worn-test (refused Worn 8 refl refl) λ t₈.
       let h : i < slots s = omega (arith, leb-false (length (m .pages)) i t₆, r .pages) in
-      let left : lastWrite s < 4294967295 = lt-of-le-ne (last-small e k s (r .fits)) (λ q. eqb-false (m .count) 4294967295 t₈ (sym (r .last) ∙ q)) in
+      let left : lastWrite s < 4294967295 = lt-of-le-ne (last-small e x k s (r .fits)) (λ q. eqb-false (m .count) 4294967295 t₈ (sym (r .last) ∙ q)) in
       rows-end (Follows e x k s₀) _ _ _ (accepted (written x e s i c) _ (effect-shows i (m .count + 1) (holds c) (written x e s i c) h
       (subst (λ (n : ℕ). Effect e x k i (n + 1) (holds c) s (written x e s i c)) (r .last)
-      (write-effect e reg k s (r .fits) x ok i c h (ltb-false 192 (length c) t₇) bc left)))))
+      (write-effect e reg x k s (r .fits) ok i c h (ltb-false 192 (length c) t₇) bc left)))))
 
   same-reply : (c : Call) → CallBytes c → (stepWith e x k c s) .0 ≡ (modelStep c m) .0
   unfolding stepWith
@@ -121,7 +120,7 @@ module _ (e : Edition) (reg : Regular e) (x : Ciphers) (ok : Sound x) (k : Keys)
 
 -- ---- a blank sheet shows the new model
 
-module _ (e : Edition) (x : Ciphers) (k : Keys) (s : List ℕ) (g : Fits e k s) (unused : lastWrite s ≡ 0) where
+module _ (e : Edition) (x : Ciphers) (k : Keys) (s : List ℕ) (g : Fits e x k s) (unused : lastWrite s ≡ 0) where
   new-shows : Shows e x k s s (newModel (slots s))
   unfolding newModel page
   new-shows =
@@ -130,7 +129,7 @@ module _ (e : Edition) (x : Ciphers) (k : Keys) (s : List ℕ) (g : Fits e k s) 
         header = header-refl (e .header) s;
         last = unused;
         pages = length-replicate (slots s) blank;
-        slot = λ i h window l. rw (getD-replicate (slots s) i blank blank h) (blank-read e k s g x i window h l (unused-blank e s (rules e k s g) unused i h));
+        slot = λ i h window l. rw (getD-replicate (slots s) i blank blank h) (blank-read e x k s g i window h l (unused-blank e s (rules e x k s g) unused i h));
       }
 
 -- ---- the theorem

@@ -19,7 +19,8 @@ use Rattle.modes.proofs.Authentication.{cmac-laws}
 use Rattle.layout.specs.Layout.{markNumber, markLength, markCheck, writtenMark}
 use Rattle.captions.specs.Captions.{Ciphers, padded, numbers, newMark, startBlock, sealedField, openedField, checkOf, slotMark}
 use Rattle.captions.specs.Claim.{Sound}
-use Rattle.captions.proofs.Fitted.{written-mark, slotFits, or-last}
+use Rattle.layout.proofs.Fits.{written-mark}
+use Rattle.captions.proofs.Fitted.{slotFits, or-last}
 
 pub numbers-block : (a b c : ℕ) → ByteBlock (numbers a b c)
 numbers-block a b c =

@@ -1,11 +1,17 @@
 -- The answers of the calls on a sheet: their numbers, words and lengths (document 01, "What the kiosk shows instead of a caption").
 use Prim.Native.Nat.{ℕ}
 use mathlib.Core.List.{List}
-use Rattle.octets.specs.Outcome.{Outcome, Row, decided}
+use Rattle.octets.specs.Outcome.{Row, decided}
 use Rattle.captions.specs.declared.Answer.{Answer}
 use Rattle.captions.specs.declared.Answer.the-variants.{Accepted, WrongKey, TwinKeys, WrongSpan, UnfitSheet, OtherKeyClass, NoSuchSlot, Overlong, Worn, Blank, Altered}
 use Rattle.captions.specs.declared.Verdict.{Verdict}
 use Rattle.captions.specs.declared.Verdict.the-variants.{Pass, Refuse}
+
+-- what a call on a sheet answers and leaves behind: the paper's number (0 is accepted), the paper's length, the lent bytes after the call
+pub record Outcome : Type 0 where
+  pub number : ℕ
+  pub len : ℕ
+  pub bytes : List ℕ
 
 -- the paper's number of each answer: 0 is accepted
 unfoldable pub answerNumber : Answer → ℕ

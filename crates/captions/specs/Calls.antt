@@ -5,10 +5,10 @@ use mathlib.Core.List.{List, [], _∷_, _++_}
 use lib.Dec.{eqb, leb, ltb}
 use lib.ListN.{length}
 use Rattle.octets.specs.Bytes.{zeros, same}
-use Rattle.octets.specs.Outcome.{Outcome, Row, _gives_, decided}
+use Rattle.octets.specs.Outcome.{Row, _gives_, decided}
 use Rattle.cipher.specs.Key.{classKnown, keyBytes, sheetKeyLength}
-use Rattle.layout.specs.Layout.{Edition, edition1, editionOf, slots, keyClass, lastWrite, sheetSize, slotCount, markLength, mark, blankSlot, fitIn, blankSheet}
-use Rattle.captions.specs.Answers.{outcome}
+use Rattle.layout.specs.Layout.{Edition, newEdition, editionOf, slots, keyClass, lastWrite, sheetSize, slotCount, markLength, mark, blankSlot, fitIn, blankSheet}
+use Rattle.captions.specs.Answers.{Outcome, outcome}
 use Rattle.captions.specs.Captions.{Keys, Ciphers, loadedFor, written, cleared, opened, altered}
 use Rattle.captions.specs.declared.Answer.{Answer}
 use Rattle.captions.specs.declared.Answer.the-variants.{Accepted, WrongKey, TwinKeys, WrongSpan, UnfitSheet, OtherKeyClass, NoSuchSlot, Overlong, Worn, Blank, Altered}
@@ -24,59 +24,87 @@ wrongKeys k =
 unfoldable pub otherClass : Keys → List ℕ → Bool
 otherClass k s = not (eqb (length (k .sealing)) (keyBytes (keyClass s)))
 
--- tests 1 and 2, of the keys alone
+-- 1 and 2, of the keys alone
 unfoldable pub keyTests : Keys → List (Row Answer)
 keyTests k =
     (wrongKeys k gives WrongKey)
     ∷ (same (k .sealing) (k .checking) gives TwinKeys)
     ∷ []
 
-module _ (e : Edition) where
-  -- tests 4, 5 and 6, of the sheet with the keys
+-- 3, of a window of n bytes
+abbrev pub spanRow : ℕ → Row Answer
+spanRow n = not (eqb n 192) gives WrongSpan
+
+-- 4, 5 and 6
+abbrev pub unfitRow : Edition → List ℕ → Row Answer
+unfitRow e s = not (fitIn e s) gives UnfitSheet
+
+abbrev pub classRow : Keys → List ℕ → Row Answer
+classRow k s = otherClass k s gives OtherKeyClass
+
+abbrev pub slotRow : List ℕ → ℕ → Row Answer
+slotRow s i = leb (slots s) i gives NoSuchSlot
+
+-- 7 and 8, of a caption for a sheet
+unfoldable pub captionTests : List ℕ → List ℕ → List (Row Answer)
+captionTests s c =
+    (ltb 192 (length c) gives Overlong)
+    ∷ (eqb (lastWrite s) 4294967295 gives Worn)
+    ∷ []
+
+-- 9 and 10
+abbrev pub blankRow : Edition → List ℕ → ℕ → Row Answer
+blankRow e s i = blankSlot e s i gives Blank
+
+abbrev pub alteredRow : Ciphers → Edition → List ℕ → ℕ → Row Answer
+alteredRow x e s i = altered x e s i gives Altered
+
+-- ---- the tests of each call, in order
+
+module _ (e : Edition) (x : Ciphers) where
+  -- what a pair of keys must pass with a fit sheet: 5
+  unfoldable pub classTests : Keys → List ℕ → List (Row Answer)
+  classTests k s = classRow k s ∷ []
+
+  -- what a pair of keys must pass: 1 2 5
+  unfoldable pub pairTests : Keys → List ℕ → List (Row Answer)
+  pairTests k s = keyTests k ++ classTests k s
+
+  -- 4 5 6, of the sheet with the keys
   unfoldable pub sheetTests : Keys → List ℕ → ℕ → List (Row Answer)
-  sheetTests k s i =
-      (not (fitIn e s) gives UnfitSheet)
-      ∷ (otherClass k s gives OtherKeyClass)
-      ∷ (leb (slots s) i gives NoSuchSlot)
-      ∷ []
+  sheetTests k s i = unfitRow e s ∷ (classTests k s ++ (slotRow s i ∷ []))
 
   -- write: 1 2 4 5 6 7 8
   unfoldable pub writeTests : Keys → List ℕ → ℕ → List ℕ → List (Row Answer)
-  writeTests k s i c =
-      keyTests k
-      ++ (sheetTests k s i
-      ++ ((ltb 192 (length c) gives Overlong)
-      ∷ (eqb (lastWrite s) 4294967295 gives Worn)
-      ∷ []))
+  writeTests k s i c = keyTests k ++ (sheetTests k s i ++ captionTests s c)
 
-  -- clear: 4 6
-  unfoldable pub clearTests : List ℕ → ℕ → List (Row Answer)
-  clearTests s i =
-      (not (fitIn e s) gives UnfitSheet)
-      ∷ (leb (slots s) i gives NoSuchSlot)
-      ∷ []
+  -- a read with a window of n bytes, of the sheet: 1 2 3 4 5 6
+  unfoldable pub windowTests : Keys → List ℕ → ℕ → ℕ → List (Row Answer)
+  windowTests k s i n = keyTests k ++ (spanRow n ∷ sheetTests k s i)
+
+  -- the same, before the slot is opened: 1 2 3 4 5 6 9
+  unfoldable pub openTests : Keys → List ℕ → ℕ → ℕ → List (Row Answer)
+  openTests k s i n = windowTests k s i n ++ (blankRow e s i ∷ [])
 
   -- read: 1 2 3 4 5 6 9 10
-  unfoldable pub readTests : Ciphers → Keys → List ℕ → ℕ → List ℕ → List (Row Answer)
-  readTests x k s i window =
-      keyTests k
-      ++ ((not (eqb (length window) 192) gives WrongSpan)
-      ∷ (sheetTests k s i
-      ++ ((blankSlot e s i gives Blank)
-      ∷ (altered x e s i gives Altered)
-      ∷ [])))
+  unfoldable pub readTests : Keys → List ℕ → ℕ → List ℕ → List (Row Answer)
+  readTests k s i window = openTests k s i (length window) ++ (alteredRow x e s i ∷ [])
+
+-- clear: 4 6
+unfoldable pub clearTests : Edition → List ℕ → ℕ → List (Row Answer)
+clearTests e s i = unfitRow e s ∷ slotRow s i ∷ []
 
 -- blanking: 1 3
 unfoldable pub blankTests : List ℕ → ℕ → ℕ → List (Row Answer)
 blankTests s n t =
     (not (classKnown t) gives WrongKey)
-    ∷ (not (slotCount n && eqb (length s) (sheetSize (edition1 .header) n)) gives WrongSpan)
+    ∷ (not (slotCount n && eqb (length s) (sheetSize (newEdition .header) n)) gives WrongSpan)
     ∷ []
 
 -- ---- the calls, for a given edition and block cipher. A refusal leaves the lent bytes, but a refused read makes its window zero
 
 unfoldable pub writingWith : Edition → Ciphers → Keys → List ℕ → ℕ → List ℕ → Outcome
-writingWith e x k s i c = decided (writeTests e k s i c) (outcome (Accepted 0) (written x e s i c)) (λ a. outcome a s)
+writingWith e x k s i c = decided (writeTests e x k s i c) (outcome (Accepted 0) (written x e s i c)) (λ a. outcome a s)
 
 unfoldable pub clearingWith : Edition → List ℕ → ℕ → Outcome
 clearingWith e s i = decided (clearTests e s i) (outcome (Accepted 0) (cleared e s i)) (λ a. outcome a s)

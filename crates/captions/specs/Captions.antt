@@ -14,6 +14,9 @@ pub record Keys : Type 0 where
   pub sealing : List ℕ
   pub checking : List ℕ
 
+abbrev pub pair : List ℕ → List ℕ → Keys
+pair sealing checking = record { sealing = sealing; checking = checking }
+
 -- what a pair of keys does to blocks: E and D under the sealing key, M under the checking key
 pub record Ciphers : Type 0 where
   pub E : List ℕ → List ℕ

@@ -2,16 +2,15 @@
 use Prim.Native.Nat.{ℕ, _+_, _≤_, _<_}
 use mathlib.Core.Path.{_≡_}
 use mathlib.Core.Bool.{true}
-use mathlib.Core.List.{List, [], _∷_, _++_}
+use mathlib.Core.List.{List, [], _∷_}
 use lib.ListN.{length}
 use Rattle.octets.specs.Bytes.{Bytes, zeros, part}
-use Rattle.octets.specs.Outcome.{Outcome, _gives_}
 use Rattle.cipher.specs.Promise.{ByteBlock, Invertible}
 use Rattle.layout.specs.Layout.{Edition, slots, lastWrite, fitIn}
-use Rattle.captions.specs.Answers.{outcome, firstOf}
+use Rattle.captions.specs.Answers.{Outcome, outcome, firstOf}
 use Rattle.captions.specs.Captions.{Keys, Ciphers, padded}
-use Rattle.captions.specs.Calls.{keyTests, otherClass, writingWith, clearingWith, readingWith}
-use Rattle.captions.specs.declared.Answer.the-variants.{Accepted, OtherKeyClass, Blank}
+use Rattle.captions.specs.Calls.{pairTests, writingWith, clearingWith, readingWith}
+use Rattle.captions.specs.declared.Answer.the-variants.{Accepted, Blank}
 use Rattle.captions.specs.declared.Verdict.the-variants.{Pass}
 use Rattle.captions.specs.Runs.{Reply, replies, finally}
 use Rattle.captions.specs.Model.{Call, writes, clears, Page, blank, holds, newModel, page, modelStep}
@@ -56,10 +55,10 @@ pub record Sound (x : Ciphers) : Type 0 where
   pub checks : (b : List ℕ) → ByteBlock b → ByteBlock (x .M b)
 
 -- of a sheet and a pair of keys: bytes that meet the layout, and none of 1, 2 and 5
-pub record Fits (e : Edition) (k : Keys) (s : List ℕ) : Type 0 where
+pub record Fits (e : Edition) (x : Ciphers) (k : Keys) (s : List ℕ) : Type 0 where
   pub bytes : Bytes s
   pub fits : fitIn e s ≡ true
-  pub passes : firstOf (keyTests k ++ ((otherClass k s gives OtherKeyClass) ∷ [])) ≡ Pass
+  pub passes : firstOf (pairTests e x k s) ≡ Pass
 
 -- ---- what holds of a list, by any step that is the calls of edition e with the ciphers x on sheets with this header
 
@@ -69,7 +68,7 @@ pub record FollowsModel (e : Edition) (x : Ciphers) (k : Keys) (step : Call → 
   -- after the list w is the model's count
   pub last : lastWrite (finally step calls s) ≡ (finally modelStep calls (newModel (slots s))) .count
   -- the sheet still meets the layout, and has its header
-  pub fits : Fits e k (finally step calls s)
+  pub fits : Fits e x k (finally step calls s)
   pub header : SameHeader (e .header) s (finally step calls s)
   -- a read of any slot below n, with any window of 192 bytes, is what its page shows
   pub reads : (i : ℕ) (window : List ℕ) → i < slots s → length window ≡ 192
@@ -77,6 +76,6 @@ pub record FollowsModel (e : Edition) (x : Ciphers) (k : Keys) (step : Call → 
 
 abbrev pub SheetsFollowModel : Type 0
 SheetsFollowModel = (e : Edition) (x : Ciphers) (k : Keys) (step : Call → List ℕ → Reply × List ℕ) (s : List ℕ) (calls : List Call)
-    → Regular e → Sound x → Fits e k s → lastWrite s ≡ 0 → Captions calls
+    → Regular e → Sound x → Fits e x k s → lastWrite s ≡ 0 → Captions calls
     → ((c : Call) (s′ : List ℕ) → SameHeader (e .header) s s′ → step c s′ ≡ stepWith e x k c s′)
     → FollowsModel e x k step s calls

@@ -4,3 +4,5 @@ pub mod Calls
 pub mod Runs
 pub mod Model
 pub mod Claim
+pub mod Refusals
+pub mod Outside

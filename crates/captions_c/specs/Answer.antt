@@ -1,8 +1,19 @@
 -- What crosses to C: the number and the length of an outcome.
 use mathlib.Core.List.{List}
 use Prim.Native.Nat.{ℕ}
-use Rattle.octets.specs.Outcome.{Outcome}
+use Rattle.octets.specs.Outcome as Blocks
+use Rattle.captions.specs.Answers as Sheets
 use Rattle.captions_c.specs.declared.Answer.{Answer}
 
-abbrev pub crossed : Answer → List ℕ → Outcome
-crossed a bytes = record { number = a .number; len = a .length; bytes = bytes }
+-- an outcome of a call on blocks, and of one on a sheet, from its number, its length and the lent bytes
+abbrev pub blockMade : ℕ → ℕ → List ℕ → Blocks.Outcome
+blockMade n l bytes = record { number = n; len = l; bytes = bytes }
+
+abbrev pub sheetMade : ℕ → ℕ → List ℕ → Sheets.Outcome
+sheetMade n l bytes = record { number = n; len = l; bytes = bytes }
+
+abbrev pub crossed : Answer → List ℕ → Blocks.Outcome
+crossed a = blockMade (a .number) (a .length)
+
+abbrev pub sheetCrossed : Answer → List ℕ → Sheets.Outcome
+sheetCrossed a = sheetMade (a .number) (a .length)

@@ -5,10 +5,10 @@ ghost use Prim.Native.Nat.{ℕ};
 ghost use Rattle.mcrypton.specs.Calls.{blockOutcome, encrypting, decrypting};
 ghost use Rattle.modes.specs.Answers.{macOutcome, authenticating};
 ghost use Rattle.captions.specs.Answers.{outcome};
+ghost use Rattle.captions.specs.Captions.{pair};
 ghost use Rattle.captions.specs.Calls.{blanking, writing, clearing, reading};
-ghost use Rattle.sheet.specs.Inner.{pair};
 ghost use Rattle.listing.specs.Listing.{listed};
-ghost use Rattle.captions_c.specs.Answer.{crossed};
+ghost use Rattle.captions_c.specs.Answer.{crossed, sheetCrossed};
 
 #[repr(C)]
 pub struct Answer {
@@ -44,7 +44,7 @@ fn mac_answer(a: modes::MacAnswer) -> Answer
 }
 
 fn sheet_answer(a: captions::Answer) -> Answer
-    ensures { λ r. ⌜ ((x : List ℕ) → crossed r x ≡ outcome a x) ⌝ }
+    ensures { λ r. ⌜ ((x : List ℕ) → sheetCrossed r x ≡ outcome a x) ⌝ }
 {
     match a {
         captions::Answer::Accepted(length) => Answer { number: 0, length },
@@ -97,7 +97,7 @@ pub extern "C" fn captions_cmac(key: &[u8], message: &[u8], out: &mut [u8]) -> A
 
 #[no_mangle]
 pub extern "C" fn captions_blank(sheet: &mut [u8], slots: usize, words: usize) -> Answer
-    ensures { λ r. ⌜ crossed r (now (sheet .exit)) ≡ blanking (now (sheet .entry)) slots words ⌝ }
+    ensures { λ r. ⌜ sheetCrossed r (now (sheet .exit)) ≡ blanking (now (sheet .entry)) slots words ⌝ }
 {
     let a = sheet::blank(sheet, slots, words);
     sheet_answer(a)
@@ -111,7 +111,7 @@ pub extern "C" fn captions_write(
     slot: usize,
     caption: &[u8],
 ) -> Answer
-    ensures { λ r. ⌜ crossed r (now (sheet .exit)) ≡ writing (pair (now (sealing .entry)) (now (checking .entry))) (now (sheet .entry)) slot (now (caption .entry)) ⌝ }
+    ensures { λ r. ⌜ sheetCrossed r (now (sheet .exit)) ≡ writing (pair (now (sealing .entry)) (now (checking .entry))) (now (sheet .entry)) slot (now (caption .entry)) ⌝ }
 {
     let a = sheet::write(sealing, checking, sheet, slot, caption);
     sheet_answer(a)
@@ -119,7 +119,7 @@ pub extern "C" fn captions_write(
 
 #[no_mangle]
 pub extern "C" fn captions_clear(sheet: &mut [u8], slot: usize) -> Answer
-    ensures { λ r. ⌜ crossed r (now (sheet .exit)) ≡ clearing (now (sheet .entry)) slot ⌝ }
+    ensures { λ r. ⌜ sheetCrossed r (now (sheet .exit)) ≡ clearing (now (sheet .entry)) slot ⌝ }
 {
     let a = sheet::clear(sheet, slot);
     sheet_answer(a)
@@ -133,7 +133,7 @@ pub extern "C" fn captions_read(
     slot: usize,
     window: &mut [u8],
 ) -> Answer
-    ensures { λ r. ⌜ crossed r (now (window .exit)) ≡ reading (pair (now (sealing .entry)) (now (checking .entry))) (now (sheet .entry)) slot (now (window .entry)) ⌝ }
+    ensures { λ r. ⌜ sheetCrossed r (now (window .exit)) ≡ reading (pair (now (sealing .entry)) (now (checking .entry))) (now (sheet .entry)) slot (now (window .entry)) ⌝ }
 {
     let a = sheet::read(sealing, checking, sheet, slot, window);
     sheet_answer(a)

@@ -2,7 +2,7 @@
 use mathlib.Core.Path.{_≡_, refl, sym, ap, _∙_, subst₂}
 use mathlib.Core.Bool.{Bool, true, false, _||_}
 use mathlib.Core.List.{List}
-use Prim.Native.Nat.{ℕ, _*_, _/_, _+_}
+use Prim.Native.Nat.{ℕ, _*_, _/_, _<_}
 use native.Mathlib.Omega.{arith}
 use lib.Dec.{eqb}
 use lib.ListN.{length}
@@ -17,8 +17,8 @@ use Rattle.mcrypton.specs.Bytes.{keyLength, wordsOf, bytesOf, encryptBytes, dec
 use Rattle.mcrypton.proofs.Paths.{same-steps}
 use Rattle.mcrypton.proofs.WordsOf.{length-words}
 use Rattle.mcrypton.proofs.ByteBlocks.{length-bytes, bytes-bytes, block-encrypted, block-decrypted, decrypt-encrypt-bytes, encrypt-decrypt-bytes}
-use Rattle.cipher.specs.Key.{classKnown, keyBytes, loaded, keyRegister, encrypted, decrypted}
-use Rattle.cipher.specs.Promise.{ByteBlock, Invertible, ClassKey, Promise}
+use Rattle.cipher.specs.Key.{mcryptonClass, classKnown, keyBytes, loaded, keyRegister, encrypted, decrypted, encryptBy, decryptBy}
+use Rattle.cipher.specs.Promise.{ByteBlock, Invertible, ClassKey, MeansMcrypton, ClassCiphers, Promise}
 
 -- the register of a key that is loaded for the class of its length
 loaded-register : (k : List ℕ) → keyRegister (loaded (length k / 2) k) ≡ start (wordsOf k)
@@ -49,34 +49,66 @@ mcrypton-invertible p q {k} t h =
 
 -- ---- a key of a class
 
-known-length : (class : ℕ) → classKnown class ≡ true → keyLength (keyBytes class) ≡ true
-unfolding classKnown keyBytes keyLength
-known-length c h = go (eqb c 4) (eqb c 6) (eqb c 8) refl refl refl h
+-- a law of class 4, 6 and 8 is one of every class of mCrypton
+pub mcrypton-cases : (P : ℕ → Type 0) → P 4 → P 6 → P 8 → (t : ℕ) → mcryptonClass t ≡ true → P t
+unfolding mcryptonClass
+mcrypton-cases P p q r t h = go (eqb t 4) (eqb t 6) (eqb t 8) refl refl refl h
   where
-    go : (x y z : Bool) → eqb c 4 ≡ x → eqb c 6 ≡ y → eqb c 8 ≡ z → (x || (y || z)) ≡ true → keyLength (2 * c) ≡ true
-    go true y z p q r h = ap (λ (n : ℕ). keyLength (2 * n)) (eqb-true c 4 p)
-    go false true z p q r h = ap (λ (n : ℕ). keyLength (2 * n)) (eqb-true c 6 q)
-    go false false z p q r h = ap (λ (n : ℕ). keyLength (2 * n)) (eqb-true c 8 (r ∙ h))
+    go : (x y z : Bool) → eqb t 4 ≡ x → eqb t 6 ≡ y → eqb t 8 ≡ z → (x || (y || z)) ≡ true → P t
+    go true y z e f g h = rw (eqb-true t 4 e) p
+    go false true z e f g h = rw (eqb-true t 6 f) q
+    go false false z e f g h = rw (eqb-true t 8 (g ∙ h)) r
+
+-- and every known class is one of them
+pub class-cases : (P : ℕ → Type 0) → P 4 → P 6 → P 8 → (t : ℕ) → classKnown t ≡ true → P t
+unfolding classKnown
+class-cases = mcrypton-cases
+
+pub mcrypton-known : (t : ℕ) → mcryptonClass t ≡ true → classKnown t ≡ true
+unfolding classKnown
+mcrypton-known t h = h
+
+-- a class stands in one byte of a sheet
+pub class-small : (t : ℕ) → classKnown t ≡ true → t < 256
+class-small = class-cases (λ t. t < 256) (omega arith) (omega arith) (omega arith)
 
 pub class-key-length : {class : ℕ} {k : List ℕ} → ClassKey class k → keyLength (length k) ≡ true
-class-key-length {class} h = ap keyLength (h .size) ∙ known-length class (h .known)
+unfolding keyLength keyBytes
+class-key-length {class} h = rw (h .size) (class-cases (λ c. keyLength (keyBytes c) ≡ true) refl refl refl class (h .known))
 
-class-half : {class : ℕ} {k : List ℕ} → ClassKey class k → class ≡ length k / 2
-class-half h = unfold keyBytes in omega (arith, h .size)
+-- by any path a loaded key is the cipher of its class, where its length is that of the class
+module _ (class : ℕ) (k : List ℕ) (size : length k ≡ keyBytes class) where
+  half : class ≡ length k / 2
+  unfolding keyBytes
+  half = omega (arith, size)
+
+  pub class-encrypts : (p : ℕ) (b : List ℕ) → encrypted (loaded class k) b ≡ encryptBy class p k b
+  unfolding encryptBy
+  class-encrypts p b = ap (λ (c : ℕ). encrypted (loaded c k) b) half ∙ loaded-encrypts p k b
+
+  pub class-decrypts : (p : ℕ) (b : List ℕ) → decrypted (loaded class k) b ≡ decryptBy class p k b
+  unfolding decryptBy
+  class-decrypts p b = ap (λ (c : ℕ). decrypted (loaded c k) b) half ∙ loaded-decrypts p k b
+
+class-invertible : {class : ℕ} {k : List ℕ} → ClassKey class k → (p q : ℕ) → Invertible (encryptBy class p k) (decryptBy class q k)
+unfolding encryptBy decryptBy
+class-invertible h p q = mcrypton-invertible p q (h .bytes) (class-key-length h)
+
+means-mcrypton : (class : ℕ) → MeansMcrypton class
+unfolding encryptBy decryptBy
+means-mcrypton class = record { encrypts = λ p k b. refl; decrypts = λ p k b. refl }
+
+pub class-ciphers : ClassCiphers
+class-ciphers = record { class-4 = means-mcrypton 4; class-6 = means-mcrypton 6; class-8 = means-mcrypton 8 }
 
 pub promise : {class : ℕ} {k : List ℕ} → ClassKey class k → Promise class k
 promise {class} {k} h =
     record {
       invertible =
-          subst₂ Invertible (λ i b. sym (encrypts 0 b) i) (λ i b. sym (decrypts 0 b) i)
-          (mcrypton-invertible 0 0 (h .bytes) (class-key-length h));
-      encrypts = encrypts;
-      decrypts = decrypts;
-      by-paths = λ p q. mcrypton-invertible p q (h .bytes) (class-key-length h);
+          subst₂ Invertible (λ i b. sym (class-encrypts class k (h .size) 0 b) i) (λ i b. sym (class-decrypts class k (h .size) 0 b) i)
+          (class-invertible h 0 0);
+      encrypts = class-encrypts class k (h .size);
+      decrypts = class-decrypts class k (h .size);
+      by-paths = class-invertible h;
+      ciphers = class-ciphers;
     }
-  where
-    encrypts : (p : ℕ) (b : List ℕ) → encrypted (loaded class k) b ≡ encryptBytes p k b
-    encrypts p b = ap (λ (c : ℕ). encrypted (loaded c k) b) (class-half h) ∙ loaded-encrypts p k b
-
-    decrypts : (p : ℕ) (b : List ℕ) → decrypted (loaded class k) b ≡ decryptBytes p k b
-    decrypts p b = ap (λ (c : ℕ). decrypted (loaded c k) b) (class-half h) ∙ loaded-decrypts p k b

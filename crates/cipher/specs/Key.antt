@@ -5,13 +5,17 @@ use mathlib.Core.List.{List}
 use lib.Dec.{eqb}
 use Rattle.schedule.specs.Schedule.{eightWords, backStart}
 use Rattle.schedule.specs.declared.Register.{Register}
-use Rattle.mcrypton.specs.Bytes.{wordsOf, bytesOf}
+use Rattle.mcrypton.specs.Bytes.{wordsOf, bytesOf, encryptBytes, decryptBytes}
 use Rattle.mcrypton.specs.Registers.{encryptFrom, decryptFrom}
 use Rattle.cipher.specs.declared.Key.{Key}
 
--- the key classes: mCrypton with keys of t words, t = 4, 6 or 8
+-- the classes of mCrypton: keys of t words, t = 4, 6 or 8
+unfoldable pub mcryptonClass : ℕ → Bool
+mcryptonClass t = eqb t 4 || (eqb t 6 || eqb t 8)
+
+-- the key classes of all ciphers
 unfoldable pub classKnown : ℕ → Bool
-classKnown t = eqb t 4 || (eqb t 6 || eqb t 8)
+classKnown t = mcryptonClass t
 
 -- the bytes of a key of a class
 unfoldable pub keyBytes : ℕ → ℕ
@@ -35,3 +39,10 @@ encrypted k b = bytesOf (encryptFrom 0 (keyRegister k) (wordsOf b))
 
 unfoldable pub decrypted : Key → List ℕ → List ℕ
 decrypted k b = bytesOf (decryptFrom 0 (backStart (keyRegister k)) (wordsOf b))
+
+-- what a class means: a block encrypted and decrypted under the key k of a class, by the path number p where its cipher has one
+unfoldable pub encryptBy : ℕ → ℕ → List ℕ → List ℕ → List ℕ
+encryptBy class p k b = encryptBytes p k b
+
+unfoldable pub decryptBy : ℕ → ℕ → List ℕ → List ℕ → List ℕ
+decryptBy class p k b = decryptBytes p k b

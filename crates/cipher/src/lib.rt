@@ -1,7 +1,8 @@
 // The block cipher under a loaded key: what the crates above know of mCrypton.
 use schedule::Register;
 ghost use mathlib.Core.Path.{_≡_};
-ghost use Rattle.cipher.specs.Key.{classKnown, keyBytes, sheetKeyLength, loaded, keyRegister, encrypted, decrypted};
+ghost use mathlib.Core.List.{map};
+ghost use Rattle.cipher.specs.Key.{mcryptonClass, classKnown, keyBytes, sheetKeyLength, loaded, keyRegister, encrypted, decrypted};
 ghost use Prim.Native.Nat.{_<_};
 
 // A loaded key: its class (the number of its words) and its words.
@@ -10,8 +11,9 @@ pub struct Key {
     pub words: [u16; 8],
 }
 
-pub fn class_known(t: usize) -> bool
-    ensures { λ r. ⌜ r ≡ classKnown t ⌝ }
+// Whether t is a class of mCrypton.
+pub fn mcrypton_class(t: usize) -> bool
+    ensures { λ r. ⌜ r ≡ mcryptonClass t ⌝ }
 {
     if t == 4 {
         return true;
@@ -20,6 +22,12 @@ pub fn class_known(t: usize) -> bool
         return true;
     }
     t == 8
+}
+
+pub fn class_known(t: usize) -> bool
+    ensures { λ r. ⌜ r ≡ classKnown t ⌝ }
+{
+    mcrypton_class(t)
 }
 
 // The bytes of a key of a class, which is below 256 since it stands in one byte.
@@ -75,4 +83,31 @@ pub fn decrypt(k: Key, b: [u8; 8]) -> [u8; 8]
 {
     let words = mcrypton::block_words(b);
     mcrypton::block_bytes(mcrypton::decrypt_words(register(k).backward_start(), words))
+}
+
+// Four blocks decrypted at a time, each by itself: what they share is the walk of the key's register.
+pub fn decrypt_four(k: Key, b: [[u8; 8]; 4]) -> [[u8; 8]; 4]
+    ensures { λ r. ⌜ r ≡ map (decrypted k) b ⌝ }
+{
+    let b0 = b[0];
+    let b1 = b[1];
+    let b2 = b[2];
+    let b3 = b[3];
+    let words = [
+        mcrypton::block_words(b0),
+        mcrypton::block_words(b1),
+        mcrypton::block_words(b2),
+        mcrypton::block_words(b3),
+    ];
+    let a = mcrypton::decrypt_four(register(k).backward_start(), words);
+    let a0 = a[0];
+    let a1 = a[1];
+    let a2 = a[2];
+    let a3 = a[3];
+    [
+        mcrypton::block_bytes(a0),
+        mcrypton::block_bytes(a1),
+        mcrypton::block_bytes(a2),
+        mcrypton::block_bytes(a3),
+    ]
 }

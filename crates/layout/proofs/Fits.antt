@@ -1,10 +1,10 @@
 -- What it means that a sheet meets the layout, and what follows for its slots.
-use mathlib.Core.Path.{_≡_, refl, sym, ap, _∙_}
-use mathlib.Core.Bool.{Bool, true, false, _&&_, and-assoc}
+use mathlib.Core.Path.{_≡_, refl, sym, _∙_}
+use mathlib.Core.Bool.{Bool, true, false, _&&_}
 use mathlib.Core.List.{List}
 use Prim.Native.Nat.{ℕ, _+_, _≤_, _<_}
 use native.Mathlib.Omega.{arith}
-use borrow.Author.Tests.{eq-eqb, ne-eqb, leb-true, le-leb, lt-leb, eqb-true}
+use borrow.Author.Tests.{eq-eqb, leb-true, le-leb, lt-leb, eqb-true}
 use lib.Dec.{eqb, leb}
 use lib.ListN.{length}
 use Rattle.octets.specs.Bytes.{part, allZero, allBelow}
@@ -12,28 +12,29 @@ use Rattle.octets.proofs.Bool.{and-left, and-right, and-both}
 use Rattle.octets.proofs.Compare.{allBelow-true, allBelow-at}
 use Rattle.octets.proofs.Parts.{length-part}
 use Rattle.cipher.specs.Key.{classKnown}
+use Rattle.cipher.proofs.Promise.{class-small}
 use Rattle.layout.specs.declared.Shape.{Shape}
-use Rattle.layout.specs.Layout.{Edition, slots, keyClass, editionByte, lastWrite, rule1, editionOf, markNumber, markLength, writtenMark, sheetSize, markAt, fieldAt, slotCount, mark, field, blankSlot, fitSlot, fitIn, fit}
-use Rattle.layout.specs.Shape.{shapeOf, SheetOf, SlotIn}
-use Rattle.layout.proofs.Header.{count-low, count-high, class-small, header-small}
+use Rattle.layout.specs.Layout.{Edition, slots, keyClass, lastWrite, editionOf, markNumber, markLength, writtenMark, sheetSize, markAt, fieldAt, slotCount, mark, field, blankSlot, fitSlot, fitIn, fit}
+use Rattle.layout.specs.Shape.{shapeOf, SheetOf, SlotIn, FitSlot}
+use Rattle.layout.proofs.Header.{rule-class, count-low, count-high, header-small}
 use Rattle.layout.proofs.Slots.{slot-of}
 
 -- ---- the test's parts
 
-pub record FitsIn (e : Edition) (s : List ℕ) : Type 0 where
+pub record Rules (e : Edition) (s : List ℕ) : Type 0 where
   pub long : 8 ≤ length s
   pub count : slotCount (slots s) ≡ true
   pub rule : e .rule s ≡ true
   pub size : length s ≡ sheetSize (e .header) (slots s)
-  pub every : (i : ℕ) → i < slots s → fitSlot e s i ≡ true
+  pub slot : (i : ℕ) → i < slots s → fitSlot e s i ≡ true
 
 abbrev pub Fits : List ℕ → Type 0
-Fits s = FitsIn (editionOf s) s
+Fits s = Rules (editionOf s) s
 
 module _ (e : Edition) (s : List ℕ) where
-  pub fit-in-facts : fitIn e s ≡ true → FitsIn e s
+  pub fit-rules : fitIn e s ≡ true → Rules e s
   unfolding fitIn
-  fit-in-facts t =
+  fit-rules t =
       let n = slots s in
       let t₁ = and-right (leb 8 (length s)) _ t in
       let t₂ = and-right (slotCount n) _ t₁ in
@@ -43,101 +44,100 @@ module _ (e : Edition) (s : List ℕ) where
         count = and-left (slotCount n) _ t₁;
         rule = and-left (e .rule s) _ t₂;
         size = eqb-true (length s) (sheetSize (e .header) n) (and-left (eqb (length s) (sheetSize (e .header) n)) _ t₃);
-        every = λ i l. allBelow-at (fitSlot e s) n i (and-right (eqb (length s) (sheetSize (e .header) n)) _ t₃) l;
+        slot = λ i l. allBelow-at (fitSlot e s) n i (and-right (eqb (length s) (sheetSize (e .header) n)) _ t₃) l;
       }
 
-  pub fits-fit-in : FitsIn e s → fitIn e s ≡ true
+  pub rules-fit : Rules e s → fitIn e s ≡ true
   unfolding fitIn
-  fits-fit-in f =
+  rules-fit f =
       and-both (leb 8 (length s)) _ (le-leb 8 (length s) (f .long))
       (and-both (slotCount (slots s)) _ (f .count)
       (and-both (e .rule s) _ (f .rule)
       (and-both (eqb (length s) (sheetSize (e .header) (slots s))) _ (eq-eqb (length s) (sheetSize (e .header) (slots s)) (f .size))
-      (allBelow-true (fitSlot e s) (slots s) (f .every)))))
+      (allBelow-true (fitSlot e s) (slots s) (f .slot)))))
 
 pub fit-facts : (s : List ℕ) → fit s ≡ true → Fits s
 unfolding fit
-fit-facts s = fit-in-facts (editionOf s) s
+fit-facts s = fit-rules (editionOf s) s
 
 pub fits-fit : (s : List ℕ) → Fits s → fit s ≡ true
 unfolding fit
-fits-fit s = fits-fit-in (editionOf s) s
+fits-fit s = rules-fit (editionOf s) s
 
 -- ---- the ways out of the test
+
+and-middle : (a b c d : Bool) → a && (b && (c && d)) ≡ (a && c) && (b && d)
+and-middle false b c d = refl
+and-middle true true c d = refl
+and-middle true false false d = refl
+and-middle true false true d = refl
 
 module _ (s : List ℕ) where
   pub fit-short : length s < 8 → false ≡ fit s
   unfolding fit fitIn
   fit-short h = rw (lt-leb 8 (length s) h)
 
-  -- r is what was found of the header, h the shape that was read
-  module _ (l : 8 ≤ length s) (r : Bool) (e : r ≡ slotCount (slots s) && editionOf s .rule s) where
-    past-header : fit s ≡ (r && (eqb (length s) (sheetSize (editionOf s .header) (slots s)) && allBelow (slots s) (fitSlot (editionOf s) s)))
+  -- r is what was found of the size
+  module _ (l : 8 ≤ length s) (r : Bool) (e : r ≡ slotCount (slots s) && eqb (length s) (sheetSize (editionOf s .header) (slots s))) where
+    past-size : fit s ≡ (r && (editionOf s .rule s && allBelow (slots s) (fitSlot (editionOf s) s)))
     unfolding fit fitIn
-    past-header = rw (le-leb 8 (length s) l, e) (sym (and-assoc (slotCount (slots s)) (editionOf s .rule s) _))
+    past-size = rw (le-leb 8 (length s) l, e) (and-middle (slotCount (slots s)) (editionOf s .rule s) (eqb (length s) (sheetSize (editionOf s .header) (slots s))) _)
 
-    pub fit-header : r ≡ false → false ≡ fit s
-    fit-header t = sym (past-header ∙ rw t)
+    pub fit-size : r ≡ false → false ≡ fit s
+    fit-size t = sym (past-size ∙ rw t)
 
-    module _ (t : r ≡ true) (h : Shape) (q : h ≡ shapeOf s) where
-      size-is : sheetSize (editionOf s .header) (slots s) ≡ sheetSize (h .header) (h .slots)
+    module _ (t : r ≡ true) where
+      size-is : length s ≡ sheetSize (editionOf s .header) (slots s)
+      size-is = eqb-true _ _ (and-right (slotCount (slots s)) _ (sym e ∙ t))
+
+      pub header-inside : editionOf s .header ≤ length s
+      unfolding sheetSize
+      header-inside = omega (arith, size-is)
+
+      -- q is what was found of the header
+      module _ (q : Bool) (f : q ≡ editionOf s .rule s) where
+        pub fit-rule : q ≡ false → false ≡ fit s
+        fit-rule u = sym (past-size ∙ rw (t, ← f, u))
+
+        pub fit-slots : q ≡ true → (b : Bool) → b ≡ allBelow (slots s) (fitSlot (editionOf s) s) → b ≡ fit s
+        fit-slots u b g = g ∙ sym (past-size ∙ rw (t, ← f, u))
+
+      pub sheet-of : (h : Shape) → h ≡ shapeOf s → SheetOf s h
       unfolding shapeOf
-      size-is = sym (ap (λ (g : Shape). sheetSize (g .header) (g .slots)) q)
-
-      pub shape-header : h .header ≤ 16
-      unfolding shapeOf
-      shape-header = rw q (header-small s)
-
-      pub shape-slots : h .slots ≤ 256
-      unfolding shapeOf
-      shape-slots = rw q (count-high (slots s) (and-left (slotCount (slots s)) (editionOf s .rule s) (sym e ∙ t)))
-
-      -- n is the size that was computed
-      module _ (n : ℕ) (d : n ≡ sheetSize (h .header) (h .slots)) where
-        size-test : eqb (length s) n ≡ eqb (length s) (sheetSize (editionOf s .header) (slots s))
-        size-test = ap (eqb (length s)) (d ∙ sym size-is)
-
-        pub fit-size : (length s ≡ n → ⊥) → false ≡ fit s
-        fit-size g = sym (past-header ∙ rw (t, ← size-test, ne-eqb (length s) n g))
-
-        pub fit-slots : length s ≡ n → (b : Bool) → b ≡ allBelow (slots s) (fitSlot (editionOf s) s) → b ≡ fit s
-        fit-slots g b f = f ∙ sym (past-header ∙ rw (t, ← size-test, eq-eqb (length s) n g))
-
-        pub sheet-of : length s ≡ n → SheetOf s h
-        sheet-of g = record { shape = q; size = g ∙ d; small = (shape-header, shape-slots) }
+      sheet-of h q = rw q (record { shape = refl; size = size-is; small = (header-small s, count-high (slots s) (and-left (slotCount (slots s)) _ (sym e ∙ t))) })
 
 -- ---- what follows for slots and fields
 
 -- a written mark
 pub record Written (w : ℕ) (m : List ℕ) : Type 0 where
-  pub numbered : 1 ≤ markNumber m
-  pub past : markNumber m ≤ w
+  pub positive : 1 ≤ markNumber m
+  pub at-most : markNumber m ≤ w
   pub short : markLength m ≤ 192
-  pub zeros : allZero (part m 6 2) ≡ true
+  pub pad : allZero (part m 6 2) ≡ true
 
-pub written-facts : (w : ℕ) (m : List ℕ) → writtenMark w m ≡ true → Written w m
+pub mark-written : (w : ℕ) (m : List ℕ) → writtenMark w m ≡ true → Written w m
 unfolding writtenMark
-written-facts w m t =
+mark-written w m t =
     let t₁ = and-right (leb 1 (markNumber m)) _ t in
     let t₂ = and-right (leb (markNumber m) w) _ t₁ in
     record {
-      numbered = leb-true 1 (markNumber m) (and-left (leb 1 (markNumber m)) _ t);
-      past = leb-true (markNumber m) w (and-left (leb (markNumber m) w) _ t₁);
+      positive = leb-true 1 (markNumber m) (and-left (leb 1 (markNumber m)) _ t);
+      at-most = leb-true (markNumber m) w (and-left (leb (markNumber m) w) _ t₁);
       short = leb-true (markLength m) 192 (and-left (leb (markLength m) 192) _ t₂);
-      zeros = and-right (leb (markLength m) 192) _ t₂;
+      pad = and-right (leb (markLength m) 192) _ t₂;
     }
 
-pub facts-written : (w : ℕ) (m : List ℕ) → Written w m → writtenMark w m ≡ true
+pub written-mark : (w : ℕ) (m : List ℕ) → Written w m → writtenMark w m ≡ true
 unfolding writtenMark
-facts-written w m f =
-    and-both (leb 1 (markNumber m)) _ (le-leb 1 (markNumber m) (f .numbered))
-    (and-both (leb (markNumber m) w) _ (le-leb (markNumber m) w (f .past))
-    (and-both (leb (markLength m) 192) _ (le-leb (markLength m) 192 (f .short)) (f .zeros)))
+written-mark w m f =
+    and-both (leb 1 (markNumber m)) _ (le-leb 1 (markNumber m) (f .positive))
+    (and-both (leb (markNumber m) w) _ (le-leb (markNumber m) w (f .at-most))
+    (and-both (leb (markLength m) 192) _ (le-leb (markLength m) 192 (f .short)) (f .pad)))
 
 pub written-length : (w : ℕ) (m : List ℕ) → writtenMark w m ≡ true → markLength m ≤ 192
-written-length w m t = written-facts w m t .short
+written-length w m t = mark-written w m t .short
 
-module _ (e : Edition) (s : List ℕ) (f : FitsIn e s) where
+module _ (e : Edition) (s : List ℕ) (f : Rules e s) where
   pub fits-some : 1 ≤ slots s
   fits-some = count-low (slots s) (f .count)
 
@@ -164,7 +164,7 @@ module _ (e : Edition) (s : List ℕ) (f : FitsIn e s) where
     -- a slot that is not blank is written
     pub not-blank-written : blankSlot e s i ≡ false → writtenMark (lastWrite s) (mark e s i) ≡ true
     unfolding fitSlot
-    not-blank-written b = rw b at (f .every i l)
+    not-blank-written b = rw b at (f .slot i l)
 
 module _ (s : List ℕ) where
   pub fits-sheet : Fits s → SheetOf s (shapeOf s)
@@ -180,8 +180,23 @@ module _ (s : List ℕ) where
   slot-in r e t h q i l = slot-of s h (rw q (fits-sheet (fit-facts s (sym e ∙ t)))) i l
 
   pub fits-class : Fits s → classKnown (keyClass s) ≡ true
-  unfolding editionOf rule1
-  fits-class f = and-left (classKnown (keyClass s)) (eqb (editionByte s) 1) (f .rule)
+  fits-class f = rule-class s (f .rule)
+
+  pub fits-header : Fits s → editionOf s .header ≤ length s
+  unfolding sheetSize
+  fits-header f = omega (arith, f .size)
 
   pub fits-class-small : Fits s → keyClass s < 256
   fits-class-small f = class-small (keyClass s) (fits-class f)
+
+-- ---- a slot of a sheet that meets the layout
+
+module _ (s : List ℕ) (i : ℕ) (p : FitSlot s i) where
+  pub slot-long : 8 ≤ length s
+  slot-long = fit-facts s (p .fits) .long
+
+  pub slot-header : editionOf s .header ≤ length s
+  slot-header = fits-header s (fit-facts s (p .fits))
+
+  pub slot-placed : (h : Shape) → h ≡ shapeOf s → SlotIn s h i
+  slot-placed h q = rw q (fits-slot s (fit-facts s (p .fits)) i (p .below))

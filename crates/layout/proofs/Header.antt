@@ -1,20 +1,20 @@
 -- Laws of the header's fields and its rule, one for each way out of a function that decides them.
-use mathlib.Core.Path.{_≡_, sym, _∙_}
-use mathlib.Core.Bool.{Bool, true, false, _&&_, false≢true}
+use mathlib.Core.Path.{_≡_, refl, sym, _∙_}
+use mathlib.Core.Bool.{Bool, true, false, _&&_}
 use mathlib.Core.List.{List}
 use Prim.Native.Nat.{ℕ, _+_, _≤_, _<_}
-use native.Mathlib.Decide.{decLt}
 use native.Mathlib.Omega.{arith}
-use borrow.Author.Tests.{ne-eqb, leb-true, le-leb, lt-leb}
+use borrow.Author.Tests.{leb-true, le-leb, lt-leb}
 use lib.Dec.{eqb, leb}
 use lib.ListN.{length, getD}
 use Rattle.octets.specs.Bytes.{Bytes, number, part}
 use Rattle.octets.proofs.Bool.{and-left, and-right, and-both}
 use Rattle.octets.proofs.Parts.{tab-part}
 use Rattle.octets.proofs.Numbers.{number-part-lt}
-use Rattle.cipher.specs.Key.{classKnown}
+use Rattle.cipher.specs.Key.{mcryptonClass, classKnown}
+use Rattle.cipher.proofs.Promise.{mcrypton-known}
 use Rattle.layout.specs.declared.Shape.{Shape}
-use Rattle.layout.specs.Layout.{slots, keyClass, editionByte, lastWrite, editionOf, rule1, slotCount}
+use Rattle.layout.specs.Layout.{Edition, edition1, slots, keyClass, editionByte, lastWrite, editionOf, rule1, slotCount, sheetSize}
 use Rattle.layout.specs.Shape.{shapeOf}
 
 -- ---- one byte as a number
@@ -53,17 +53,7 @@ pub count-within : (n : ℕ) → 1 ≤ n → n ≤ 256 → slotCount n ≡ true
 unfolding slotCount
 count-within n l g = and-both (leb 1 n) (leb n 256) (le-leb 1 n l) (le-leb n 256 g)
 
--- ---- the key class
-
-pub class-small : (t : ℕ) → classKnown t ≡ true → t < 256
-unfolding classKnown
-class-small t e =
-    elim (decLt t 256) [
-      | yes l ↦ l
-      | no l ↦
-          let f : classKnown t ≡ false = rw (ne-eqb t 4 (λ q. omega arith), ne-eqb t 6 (λ q. omega arith), ne-eqb t 8 (λ q. omega arith)) in
-          absurd (false≢true (sym f ∙ e))
-    ]
+-- ---- the header's numbers
 
 module _ (s : List ℕ) (b : Bytes s) (h : 8 ≤ length s) where
   pub slots-below : slots s < 65536
@@ -78,39 +68,74 @@ module _ (s : List ℕ) (b : Bytes s) (h : 8 ≤ length s) where
   unfolding lastWrite
   last-below = number-part-lt s 4 4 (omega arith) b
 
--- ---- the edition's rule: x is what was read of byte 2, k what was found of it
+-- ---- the edition
 
-module _ (s : List ℕ) (h : 8 ≤ length s) (x : ℕ) (e : x ≡ getD s 2 0) (k : Bool) (f : k ≡ classKnown x) where
-  pub rule-class : k ≡ false → false ≡ editionOf s .rule s
-  unfolding editionOf rule1
-  rule-class t = rw (← class-read s x h e, ← f, t)
-
-  pub rule-edition : k ≡ true → (y : ℕ) → y ≡ getD s 3 0 → eqb y 1 ≡ editionOf s .rule s
-  unfolding editionOf rule1
-  rule-edition t y g = rw (← class-read s x h e, ← f, t, ← edition-read s y h g)
-
--- the count of slots, then the rule: n is what was read of bytes 0 and 1, r what was found of it
-module _ (s : List ℕ) (n : ℕ) (e : n ≡ number (part s 0 2)) (r : Bool) (f : r ≡ slotCount n) where
-  pub header-count : r ≡ false → false ≡ slotCount (slots s) && editionOf s .rule s
-  unfolding slots
-  header-count t = rw (← e, ← f, t)
-
-  pub header-rule : r ≡ true → (k : Bool) → k ≡ editionOf s .rule s → k ≡ slotCount (slots s) && editionOf s .rule s
-  unfolding slots
-  header-rule t k g = rw (← e, ← f, t) g
-
--- ---- the shape
-
-pub shape-read : (s : List ℕ) (n t : ℕ) → 8 ≤ length s → n ≡ number (part s 0 2) → t ≡ getD s 2 0
-    → _≡_ {A = Shape} (record { header = 8; slots = n; class = t; tail = 0 }) (shapeOf s)
-unfolding shapeOf editionOf slots
-shape-read s n t h e f = rw (e, class-read s t h f)
+-- by cases of the edition: no other law looks into the choice
+pub edition-cases : (P : Edition → Type 0) (s : List ℕ) → P edition1 → P (editionOf s)
+unfolding editionOf
+edition-cases P s h = h
 
 -- a header is small in every edition
 pub header-small : (s : List ℕ) → editionOf s .header ≤ 16
-unfolding editionOf
-header-small s = omega arith
+header-small s = edition-cases (λ e. e .header ≤ 16) s (omega arith)
 
 pub header-holds : (s : List ℕ) → 8 ≤ editionOf s .header
-unfolding editionOf
-header-holds s = omega arith
+header-holds s = edition-cases (λ e. 8 ≤ e .header) s (omega arith)
+
+pub header-long : (s : List ℕ) → editionOf s .header ≤ length s → 8 ≤ length s
+header-long s h = omega (arith, header-holds s)
+
+pub size-one : (s : List ℕ) → 8 ≡ editionOf s .header
+size-one s = edition-cases (λ e. 8 ≡ e .header) s refl
+
+pub tail-one : (s : List ℕ) → 0 ≡ editionOf s .tail s
+tail-one s = edition-cases (λ e. 0 ≡ e .tail s) s refl
+
+pub rule-class : (s : List ℕ) → editionOf s .rule s ≡ true → classKnown (keyClass s) ≡ true
+rule-class s = edition-cases (λ e. e .rule s ≡ true → classKnown (keyClass s) ≡ true) s (λ h. unfold rule1 in mcrypton-known (keyClass s) (and-left (mcryptonClass (keyClass s)) _ h))
+
+module _ (s : List ℕ) (l : editionOf s .header ≤ length s) where
+  pub header-byte : 3 < length s
+  header-byte = omega (arith, l, header-holds s)
+
+  pub class-byte : 2 < length s
+  class-byte = omega (arith, l, header-holds s)
+
+  pub slots-bytes : 0 + 2 ≤ length s
+  slots-bytes = omega (arith, l, header-holds s)
+
+  -- the edition's rule: x is what was read of byte 2, k what was found of it
+  module _ (x : ℕ) (e : x ≡ getD s 2 0) (k : Bool) (f : k ≡ mcryptonClass x) where
+    class-found : mcryptonClass (keyClass s) ≡ k
+    class-found = rw (← class-read s x (header-long s l) e, f)
+
+    pub rule-other : k ≡ false → false ≡ editionOf s .rule s
+    rule-other t = edition-cases (λ d. false ≡ d .rule s) s (unfold rule1 in rw (class-found ∙ t))
+
+    pub rule-edition : k ≡ true → (y : ℕ) → y ≡ getD s 3 0 → eqb y 1 ≡ editionOf s .rule s
+    rule-edition t y g = edition-cases (λ d. eqb y 1 ≡ d .rule s) s (unfold rule1 in rw (class-found ∙ t, ← edition-read s y (header-long s l) g))
+
+-- ---- the size: n is what was read of bytes 0 and 1, r what was found of it
+
+module _ (s : List ℕ) (n : ℕ) (e : n ≡ number (part s 0 2)) (r : Bool) (f : r ≡ slotCount n) where
+  pub size-count : r ≡ false → false ≡ slotCount (slots s) && eqb (length s) (sheetSize (editionOf s .header) (slots s))
+  unfolding slots
+  size-count t = rw (← e, ← f, t)
+
+  module _ (t : r ≡ true) (m : ℕ) (g : m ≡ editionOf s .header) where
+    pub count-few : n ≤ 256
+    count-few = count-high n (sym f ∙ t)
+
+    pub size-few : m ≤ 16
+    size-few = rw g (header-small s)
+
+    pub size-found : (z : ℕ) → z ≡ sheetSize m n → eqb (length s) z ≡ slotCount (slots s) && eqb (length s) (sheetSize (editionOf s .header) (slots s))
+    unfolding slots
+    size-found z q = rw (← e, ← f, t, q, g)
+
+-- ---- the shape
+
+pub shape-read : (s : List ℕ) (a n t b : ℕ) → editionOf s .header ≤ length s → a ≡ editionOf s .header → n ≡ number (part s 0 2) → t ≡ getD s 2 0 → b ≡ editionOf s .tail s
+    → _≡_ {A = Shape} (record { header = a; slots = n; class = t; tail = b }) (shapeOf s)
+unfolding shapeOf slots
+shape-read s a n t b h d e f g = rw (d, e, class-read s t (header-long s h) f, g)

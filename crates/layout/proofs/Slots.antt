@@ -1,10 +1,10 @@
 -- Laws of marks and slots, one for each way out of a function that decides them.
 use mathlib.Core.Path.{_≡_, refl, sym, ap, ap₂, _∙_}
-use mathlib.Core.Bool.{Bool, true, false, or-true, or-false}
+use mathlib.Core.Bool.{Bool, true, false}
 use mathlib.Core.List.{List, [], _∷_}
 use Prim.Native.Nat.{ℕ, zero, suc, _+_, _-_, _*_, _^_, _≤_, _<_}
 use native.Mathlib.Omega.{arith}
-use borrow.Author.Tests.{ne-eqb, le-leb, lt-leb}
+use borrow.Author.Tests.{ne-eqb}
 use lib.Dec.{eqb}
 use lib.ListN.{length, take, drop}
 use Rattle.octets.specs.Bytes.{number, part, allZero, allBelow}
@@ -13,7 +13,7 @@ use Rattle.octets.proofs.Compare.{allBelow-next, allBelow-stop}
 use Rattle.octets.proofs.Numbers.{pow256-pos}
 use Rattle.octets.proofs.Parts.{part-span}
 use Rattle.layout.specs.declared.Shape.{Shape}
-use Rattle.layout.specs.Layout.{slots, lastWrite, editionOf, markNumber, markLength, writtenMark, sheetSize, markAt, fieldAt, mark, field, blankSlot, fitSlot}
+use Rattle.layout.specs.Layout.{slots, editionOf, sheetSize, markAt, fieldAt, mark, field, blankSlot, fitSlot}
 use Rattle.layout.specs.Shape.{shapeOf, SheetOf, SlotIn}
 
 -- ---- marks
@@ -24,26 +24,6 @@ unfolding number allZero
 number-zero [] = refl
 number-zero (zero ∷ s) = ap (λ (n : ℕ). eqb n 0) {x = 0 * 256 ^ length s + number s} {y = number s} (omega arith) ∙ number-zero s
 number-zero (suc x ∷ s) = ne-eqb (suc x * 256 ^ length s + number s) 0 (λ q. omega (arith, pow256-pos (length s))) ∙ sym (and-false-left (eqb (suc x) 0) (allZero s) (ne-eqb (suc x) 0 (λ q. omega arith)))
-
--- a mark m: x, y and z are what was read of its number, its length and its two zero bytes
-module _ (w : ℕ) (m : List ℕ) (x : ℕ) (e : x ≡ number (part m 0 4)) where
-  pub mark-unnumbered : x < 1 → false ≡ writtenMark w m
-  unfolding writtenMark markNumber
-  mark-unnumbered h = rw (← e, lt-leb 1 x h)
-
-  module _ (h : 1 ≤ x) where
-    pub mark-unwritten : w < x → false ≡ writtenMark w m
-    unfolding writtenMark markNumber
-    mark-unwritten g = rw (← e, le-leb 1 x h, lt-leb x w g)
-
-    module _ (g : x ≤ w) (y : ℕ) (f : y ≡ number (part m 4 2)) where
-      pub mark-long : 192 < y → false ≡ writtenMark w m
-      unfolding writtenMark markNumber markLength
-      mark-long l = rw (← e, le-leb 1 x h, le-leb x w g, ← f, lt-leb y 192 l)
-
-      pub mark-zeros : y ≤ 192 → (z : ℕ) → z ≡ number (part m 6 2) → eqb z 0 ≡ writtenMark w m
-      unfolding writtenMark markNumber markLength
-      mark-zeros l z p = rw (← e, le-leb 1 x h, le-leb x w g, ← f, le-leb y 192 l, p) (number-zero (part m 6 2))
 
 -- ---- slot i of a sheet s of shape h
 
@@ -82,15 +62,6 @@ module _ (s : List ℕ) (h : Shape) (i : ℕ) (p : SlotIn s h i) where
         → (b : ℕ) → b ≡ fieldAt (h .header) (h .slots) i → (q : Bool) → q ≡ allZero (take ((b + 192) - b) (drop b s)) → q ≡ blankSlot (editionOf s) s i
     unfolding blankSlot
     blank-field f t b g q u = rw (← slot-mark a e, ← f, t, ← slot-field b g) u
-
-    module _ (w : ℕ) (g : w ≡ lastWrite s) (f : r ≡ writtenMark w (take ((a + 16) - a) (drop a s))) where
-      pub slot-written : r ≡ true → true ≡ fitSlot (editionOf s) s i
-      unfolding fitSlot
-      slot-written t = sym (rw (← slot-mark a e, ← g, ← f, t) (or-true (blankSlot (editionOf s) s i)))
-
-      pub slot-blank : r ≡ false → (q : Bool) → q ≡ blankSlot (editionOf s) s i → q ≡ fitSlot (editionOf s) s i
-      unfolding fitSlot
-      slot-blank t q u = rw (← u, ← slot-mark a e, ← g, ← f, t) (sym (or-false q))
 
 -- ---- the slots of a sheet s of shape h, of which those below i are found fit
 

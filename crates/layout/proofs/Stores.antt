@@ -1,22 +1,23 @@
 -- Laws of blanking, of zeroing a slot, and of the shape of a sheet after a store.
-use mathlib.Core.Path.{_≡_, sym, ap, _∙_}
+use mathlib.Core.Path.{_≡_, refl, sym, ap, _∙_}
 use mathlib.Core.List.{List, _++_}
 use Prim.Native.Nat.{ℕ, _+_, _*_, _/_, _%_, _≤_, _<_}
 use native.Mathlib.Nat.{mod-eq-of-lt, div-one}
 use native.Mathlib.Omega.{arith}
 use lib.ListN.{length, set, replicate, replicate-append-replicate}
-use Rattle.octets.specs.Bytes.{be, number, zeros, put}
+use Rattle.octets.specs.Bytes.{be, number, zeros, part, put}
 use Rattle.octets.proofs.Numbers.{length-be}
 use Rattle.octets.proofs.Parts.{length-put, part-put-before}
 use Rattle.layout.specs.declared.Shape.{Shape}
-use Rattle.layout.specs.Layout.{edition1, editionOf, slots, keyClass, sheetSize, markAt, fieldAt, storeSlot, storeLast, blankHeader, blankSheet}
+use Rattle.layout.specs.Layout.{newEdition, editionOf, slots, keyClass, sheetSize, markAt, fieldAt, storeSlot, storeLast, blankHeader, blankSlots, blankSheet}
 use Rattle.layout.specs.Shape.{shapeOf, SlotIn}
+use Rattle.layout.proofs.Header.{edition-cases, header-holds}
 use Rattle.layout.proofs.Slots.{header-is, slots-are}
 
 -- the four stores of the header into zeros
-pub blank-stored : (s l : List ℕ) (n t : ℕ) → l ≡ zeros (length s) → length s ≡ sheetSize (edition1 .header) n → n ≤ 256 → t < 256
+pub blank-stored : (s l : List ℕ) (n t : ℕ) → l ≡ zeros (length s) → length s ≡ sheetSize (newEdition .header) n → n ≤ 256 → t < 256
     → set (set (set (set l 0 (n / 256)) 1 (n % 256)) 2 t) 3 1 ≡ blankSheet n t
-unfolding blankSheet blankHeader zeros be sheetSize
+unfolding blankSheet blankSlots blankHeader zeros be sheetSize
 blank-stored s l n t e f h g =
     let k : length s ≡ 8 + 208 * n = f in
     let z : l ≡ replicate 8 0 ++ replicate (208 * n) 0 = e ∙ rw k (sym (replicate-append-replicate 8 (208 * n) 0)) in
@@ -32,10 +33,7 @@ slot-zeroed s t u h i a b p e f g d =
     d
     ∙ rw (f, e, g, header-is s h i p, slots-are s h i p)
 
--- one mark, and the last write number
-pub mark-stored : (s t m : List ℕ) (h : Shape) (i a : ℕ) → a ≡ markAt (h .header) i → t ≡ put s a m → t ≡ put s (markAt (h .header) i) m
-mark-stored s t m h i a e f = f ∙ ap (λ (k : ℕ). put s k m) e
-
+-- the last write number
 pub last-stored : (s t x : List ℕ) (w : ℕ) → x ≡ be 4 w → t ≡ put s 4 x → t ≡ storeLast s w
 unfolding storeLast
 last-stored s t x w e f = f ∙ ap (put s 4) e
@@ -46,18 +44,30 @@ pub length-last : (s : List ℕ) (w : ℕ) → 8 ≤ length s → length (storeL
 unfolding storeLast
 length-last s w h = length-put s (be 4 w) 4 (omega (arith, length-be 4 w))
 
+module _ (s t : List ℕ) (n : part t 0 2 ≡ part s 0 2) (c : part t 2 1 ≡ part s 2 1) (e : part t 3 1 ≡ part s 3 1) where
+  edition-same : editionOf t ≡ editionOf s
+  unfolding editionOf
+  edition-same = refl
+
+  tail-same : editionOf s .tail t ≡ editionOf s .tail s
+  tail-same = edition-cases (λ d. d .tail t ≡ d .tail s) s refl
+
+  shape-same : shapeOf t ≡ shapeOf s
+  unfolding shapeOf slots keyClass
+  shape-same = rw (edition-same, n, c, tail-same)
+
 pub shape-last : (s : List ℕ) (w : ℕ) → 8 ≤ length s → shapeOf (storeLast s w) ≡ shapeOf s
-unfolding shapeOf storeLast editionOf slots keyClass
+unfolding storeLast
 shape-last s w h =
     let before = part-put-before s (be 4 w) 4 (omega (arith, length-be 4 w)) in
-    rw (before 0 2 (omega arith), before 2 1 (omega arith))
+    shape-same s (put s 4 (be 4 w)) (before 0 2 (omega arith)) (before 2 1 (omega arith)) (before 3 1 (omega arith))
 
 module _ (s xs : List ℕ) (a : ℕ) (fits : a + length xs ≤ length s) where
   pub shape-put : editionOf s .header ≤ a → shapeOf (put s a xs) ≡ shapeOf s
-  unfolding shapeOf editionOf slots keyClass
   shape-put h =
       let before = part-put-before s xs a fits in
-      rw (before 0 2 (omega arith), before 2 1 (omega arith))
+      let eight = header-holds s in
+      shape-same s (put s a xs) (before 0 2 (omega (arith, eight))) (before 2 1 (omega (arith, eight))) (before 3 1 (omega (arith, eight)))
 
   pub slot-put : (h : Shape) (i : ℕ) → h .header ≤ a → SlotIn s h i → SlotIn (put s a xs) h i
   slot-put h i l p =

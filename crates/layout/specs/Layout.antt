@@ -5,7 +5,7 @@ use mathlib.Core.List.{List, _++_}
 use lib.Dec.{eqb, leb}
 use lib.ListN.{length}
 use Rattle.octets.specs.Bytes.{be, number, zeros, part, put, allZero, allBelow}
-use Rattle.cipher.specs.Key.{classKnown}
+use Rattle.cipher.specs.Key.{mcryptonClass}
 
 -- ---- the header's fields
 
@@ -34,8 +34,9 @@ pub record Edition : Type 0 where
   -- the last two bytes, as a number, of the block that is encrypted to make a start block
   pub tail : List ℕ → ℕ
 
+-- t is 4, 6 or 8, and the edition 1
 unfoldable pub rule1 : List ℕ → Bool
-rule1 s = classKnown (keyClass s) && eqb (editionByte s) 1
+rule1 s = mcryptonClass (keyClass s) && eqb (editionByte s) 1
 
 abbrev pub edition1 : Edition
 edition1 = record { header = 8; rule = rule1; tail = λ s. 0 }
@@ -43,6 +44,10 @@ edition1 = record { header = 8; rule = rule1; tail = λ s. 0 }
 -- the edition of a sheet; a sheet of none breaks the rule of the one that it is held to
 unfoldable pub editionOf : List ℕ → Edition
 editionOf s = edition1
+
+-- the edition that blanking makes
+abbrev pub newEdition : Edition
+newEdition = edition1
 
 -- ---- marks and fields
 
@@ -114,5 +119,9 @@ storeLast s w = put s 4 (be 4 w)
 unfoldable pub blankHeader : ℕ → ℕ → List ℕ
 blankHeader n t = be 2 n ++ (be 1 t ++ (be 1 1 ++ be 4 0))
 
+-- a header, and n slots of zeros
+unfoldable pub blankSlots : List ℕ → ℕ → List ℕ
+blankSlots header n = header ++ zeros (208 * n)
+
 unfoldable pub blankSheet : ℕ → ℕ → List ℕ
-blankSheet n t = blankHeader n t ++ zeros (208 * n)
+blankSheet n t = blankSlots (blankHeader n t) n

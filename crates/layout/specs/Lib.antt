@@ -1,2 +1,5 @@
 pub mod Layout
 pub mod Shape
+pub mod Rules
+pub mod Marks
+pub mod Places

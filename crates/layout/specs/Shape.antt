@@ -1,9 +1,10 @@
 -- What the code keeps of a sheet's header while it works: the contracts of inner functions speak of it.
 use Prim.Native.Nat.{ℕ, _≤_, _<_}
 use mathlib.Core.Path.{_≡_}
+use mathlib.Core.Bool.{true}
 use mathlib.Core.List.{List}
 use lib.ListN.{length}
-use Rattle.layout.specs.Layout.{editionOf, slots, keyClass, sheetSize}
+use Rattle.layout.specs.Layout.{editionOf, slots, keyClass, sheetSize, fit}
 use Rattle.layout.specs.declared.Shape.{Shape}
 
 unfoldable pub shapeOf : List ℕ → Shape
@@ -27,3 +28,8 @@ pub record SlotIn (s : List ℕ) (h : Shape) (i : ℕ) : Type 0 where
   pub size : length s ≡ sheetSize (h .header) (h .slots)
   pub small : (h .header ≤ 16) × (h .slots ≤ 256)
   pub below : i < h .slots
+
+-- a sheet that meets the layout, and one of its slots
+pub record FitSlot (s : List ℕ) (i : ℕ) : Type 0 where
+  pub fits : fit s ≡ true
+  pub below : i < slots s

@@ -2,10 +2,12 @@
 ghost use mathlib.Core.Path.{_≡_};
 ghost use mathlib.Core.Bool.{_&&_};
 ghost use Prim.Native.Nat.{_≤_, _<_};
+ghost use lib.Dec.{eqb};
 ghost use lib.ListN.{length};
-ghost use Rattle.octets.specs.Bytes.{zeros, put, allBelow};
-ghost use Rattle.layout.specs.Layout.{edition1, editionOf, slots, lastWrite, slotCount, writtenMark, sheetSize, markAt, fieldAt, blankSlot, fitSlot, fit, storeSlot, storeLast, blankSheet};
+ghost use Rattle.octets.specs.Bytes.{zeros, allBelow};
+ghost use Rattle.layout.specs.Layout.{editionOf, newEdition, slots, lastWrite, slotCount, sheetSize, markAt, fieldAt, blankSlot, fitSlot, fit, storeSlot, storeLast, blankSheet};
 ghost use Rattle.layout.specs.Shape.{shapeOf, SlotIn, SheetOf};
+ghost use Rattle.layout.specs.Marks.{blankAfter, writtenAfter};
 
 pub struct Shape {
     pub header: usize,
@@ -13,6 +15,9 @@ pub struct Shape {
     pub class: usize,
     pub tail: usize,
 }
+
+// The size of the header of edition 1.
+const HEADER_1: usize = 8;
 
 pub fn slot_count(n: usize) -> bool
     ensures { λ r. ⌜ r ≡ slotCount n ⌝ }
@@ -30,37 +35,55 @@ pub fn last_write(s: &[u8]) -> usize
     octets::number4(s, 4)
 }
 
-pub fn sheet_shape(s: &[u8]) -> Shape
+// The size of the header of the sheet's edition.
+fn header_size(s: &[u8]) -> usize
     requires { ⌜ 8 ≤ length (now s) ⌝ }
+    ensures { λ r. ⌜ r ≡ editionOf (now (s .entry)) .header ⌝ }
+{
+    HEADER_1
+}
+
+// The last two bytes of the block that is encrypted to make a start block.
+fn start_tail(s: &[u8]) -> usize
+    requires { ⌜ editionOf (now s) .header ≤ length (now s) ⌝ }
+    ensures { λ r. ⌜ r ≡ editionOf (now (s .entry)) .tail (now (s .entry)) ⌝ }
+{
+    0
+}
+
+pub fn sheet_shape(s: &[u8]) -> Shape
+    requires { ⌜ editionOf (now s) .header ≤ length (now s) ⌝ }
     ensures { λ r. ⌜ r ≡ shapeOf (now (s .entry)) ⌝ }
 {
     Shape {
-        header: 8,
+        header: header_size(s),
         slots: octets::number2(s, 0),
         class: octets::byte(s, 2),
-        tail: 0,
+        tail: start_tail(s),
     }
 }
 
 // The rule of the sheet's edition on its header.
 fn header_rule(s: &[u8]) -> bool
-    requires { ⌜ 8 ≤ length (now s) ⌝ }
+    requires { ⌜ editionOf (now s) .header ≤ length (now s) ⌝ }
     ensures { λ r. ⌜ r ≡ editionOf (now (s .entry)) .rule (now (s .entry)) ⌝ }
 {
-    if !cipher::class_known(octets::byte(s, 2)) {
+    if !cipher::mcrypton_class(octets::byte(s, 2)) {
         return false;
     }
     octets::byte(s, 3) == 1
 }
 
-fn fit_header(s: &[u8]) -> bool
+// Whether the sheet has the size that its header says.
+fn fit_size(s: &[u8]) -> bool
     requires { ⌜ 8 ≤ length (now s) ⌝ }
-    ensures { λ r. ⌜ r ≡ slotCount (slots (now (s .entry))) && editionOf (now (s .entry)) .rule (now (s .entry)) ⌝ }
+    ensures { λ r. ⌜ r ≡ slotCount (slots (now (s .entry))) && eqb (length (now (s .entry))) (sheetSize (editionOf (now (s .entry)) .header) (slots (now (s .entry)))) ⌝ }
 {
-    if !slot_count(octets::number2(s, 0)) {
+    let n = octets::number2(s, 0);
+    if !slot_count(n) {
         return false;
     }
-    header_rule(s)
+    s.len() == sheet_size(header_size(s), n)
 }
 
 // The size of a sheet of n slots.
@@ -87,24 +110,6 @@ pub fn field_at(h: Shape, i: usize) -> usize
     h.header + 16 * h.slots + 192 * i
 }
 
-// Whether a mark is that of a written slot, where w is the last write number.
-pub fn written_mark(m: &[u8], w: usize) -> bool
-    requires { ⌜ length (now m) ≡ 16 ⌝ }
-    ensures { λ r. ⌜ r ≡ writtenMark w (now (m .entry)) ⌝ }
-{
-    let number = octets::number4(m, 0);
-    if number < 1 {
-        return false;
-    }
-    if w < number {
-        return false;
-    }
-    if 192 < octets::number2(m, 4) {
-        return false;
-    }
-    octets::number2(m, 6) == 0
-}
-
 pub fn blank_slot(s: &[u8], h: Shape, i: usize) -> bool
     requires { ⌜ SlotIn (now s) h i ⌝ }
     ensures { λ r. ⌜ r ≡ blankSlot (editionOf (now (s .entry))) (now (s .entry)) i ⌝ }
@@ -117,17 +122,48 @@ pub fn blank_slot(s: &[u8], h: Shape, i: usize) -> bool
     octets::all_zero(&s[b..b + 192])
 }
 
-// The few reads of a written slot's rules come first: only where they fail are the 208 bytes gathered.
+// Whether a slot is blank whose write number is 0; rest is the number in bytes 4 to 7 of its mark.
+fn blank_after(s: &[u8], h: Shape, i: usize, rest: usize) -> bool
+    requires { ⌜ SlotIn (now s) h i ⌝ }
+    ensures { λ r. ⌜ r ≡ blankAfter (now (s .entry)) h i rest ⌝ }
+{
+    if rest != 0 {
+        return false;
+    }
+    let a = mark_at(h, i) + 8;
+    if !octets::all_zero(&s[a..a + 8]) {
+        return false;
+    }
+    let b = field_at(h, i);
+    octets::all_zero(&s[b..b + 192])
+}
+
+// Whether a slot is written whose write number is not 0.
+fn written_after(number: usize, rest: usize, w: usize) -> bool
+    ensures { λ r. ⌜ r ≡ writtenAfter w number rest ⌝ }
+{
+    if w < number {
+        return false;
+    }
+    if 192 * 65536 < rest {
+        return false;
+    }
+    rest % 65536 == 0
+}
+
+// A mark's numbers are read once: the write number says which of the two a slot can be.
 fn fit_slot(s: &[u8], h: Shape, w: usize, i: usize) -> bool
     requires { ⌜ SlotIn (now s) h i ⌝ }
     requires { ⌜ w ≡ lastWrite (now s) ⌝ }
     ensures { λ r. ⌜ r ≡ fitSlot (editionOf (now (s .entry))) (now (s .entry)) i ⌝ }
 {
     let a = mark_at(h, i);
-    if written_mark(&s[a..a + 16], w) {
-        return true;
+    let number = octets::number4(s, a);
+    let rest = octets::number4(s, a + 4);
+    if number == 0 {
+        return blank_after(s, h, i, rest);
     }
-    blank_slot(s, h, i)
+    written_after(number, rest, w)
 }
 
 fn fit_slots(s: &[u8], h: Shape, w: usize) -> bool
@@ -151,19 +187,26 @@ pub fn fit_sheet(s: &[u8]) -> bool
     if s.len() < 8 {
         return false;
     }
-    if !fit_header(s) {
+    if !fit_size(s) {
         return false;
     }
-    let h = sheet_shape(s);
-    if s.len() != sheet_size(h.header, h.slots) {
+    if !header_rule(s) {
         return false;
     }
-    fit_slots(s, h, last_write(s))
+    fit_slots(s, sheet_shape(s), last_write(s))
+}
+
+// The size of a blank sheet of n slots.
+pub fn blank_size(n: usize) -> usize
+    requires { ⌜ n ≤ 256 ⌝ }
+    ensures { λ r. ⌜ r ≡ sheetSize (newEdition .header) n ⌝ }
+{
+    sheet_size(HEADER_1, n)
 }
 
 // A blank sheet of n slots and keys of class t.
 pub fn put_blank(sheet: &mut [u8], n: usize, t: usize)
-    requires { ⌜ length (now sheet) ≡ sheetSize (edition1 .header) n ⌝ }
+    requires { ⌜ length (now sheet) ≡ sheetSize (newEdition .header) n ⌝ }
     requires { ⌜ (n ≤ 256) × (t < 256) ⌝ }
     ensures { λ _. ⌜ now (sheet .exit) ≡ blankSheet n t ⌝ }
 {
@@ -181,15 +224,6 @@ pub fn zero_slot(sheet: &mut [u8], h: Shape, i: usize)
 {
     octets::zero_part(sheet, field_at(h, i), 192);
     octets::zero_part(sheet, mark_at(h, i), 16);
-}
-
-// The mark of slot i becomes m.
-pub fn put_mark(sheet: &mut [u8], h: Shape, i: usize, m: &[u8])
-    requires { ⌜ SlotIn (now sheet) h i ⌝ }
-    requires { ⌜ length (now m) ≡ 16 ⌝ }
-    ensures { λ _. ⌜ now (sheet .exit) ≡ put (now (sheet .entry)) (markAt (h .header) i) (now (m .entry)) ⌝ }
-{
-    octets::copy_part(sheet, mark_at(h, i), m);
 }
 
 // The last write number becomes w.

@@ -2,7 +2,7 @@
 use mathlib.Core.Path.{_≡_, refl}
 use mathlib.Core.List.{_∷_}
 use Rattle.octets.specs.Bytes.{number, zeros, allZero, allBelow}
-use Rattle.cipher.specs.Key.{classKnown, keyBytes}
+use Rattle.cipher.specs.Key.{mcryptonClass, keyBytes}
 use Rattle.layout.specs.Layout.{slots, keyClass, editionByte, lastWrite, rule1, editionOf, sheetSize, markAt, fieldAt, slotCount, mark, field, blankSlot, fitSlot, fitIn, fit}
 use Rattle.listing.specs.Ascii.{ascii}
 use Rattle.listing.specs.Listing.{digits, decimal, line, headLine, blankLine, writtenLine, slotLine, slotLines, keyBits, listable, listing}
@@ -12,5 +12,5 @@ unfolding digits decimal line writtenLine
 written-example = refl
 
 pub listing-example : listing (0 ∷ 2 ∷ 4 ∷ 1 ∷ zeros 420) ≡ ascii "slots 2 key 64 last 0\n0 blank\n1 blank\n"
-unfolding number zeros allZero allBelow classKnown keyBytes slots keyClass editionByte lastWrite rule1 editionOf sheetSize markAt fieldAt slotCount mark field blankSlot fitSlot fitIn fit digits decimal line headLine blankLine slotLine slotLines keyBits listable listing
+unfolding number zeros allZero allBelow mcryptonClass keyBytes slots keyClass editionByte lastWrite rule1 editionOf sheetSize markAt fieldAt slotCount mark field blankSlot fitSlot fitIn fit digits decimal line headLine blankLine slotLine slotLines keyBits listable listing
 listing-example = refl

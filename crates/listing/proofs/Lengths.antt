@@ -12,7 +12,7 @@ use Rattle.octets.proofs.Bool.{and-right}
 use Rattle.cipher.specs.Key.{keyBytes}
 use Rattle.layout.specs.Layout.{slots, lastWrite, editionOf, markNumber, markLength, mark, blankSlot, fit}
 use Rattle.layout.proofs.Header.{last-below}
-use Rattle.layout.proofs.Fits.{Fits, fit-facts, fits-few, fits-class-small, not-blank-written, Written, written-facts}
+use Rattle.layout.proofs.Fits.{Fits, fit-facts, fits-few, fits-class-small, not-blank-written, Written, mark-written}
 use Rattle.listing.specs.Listing.{line, headLine, blankLine, writtenLine, slotLine, slotLines, keyBits, listable, listing, listed}
 use Rattle.listing.proofs.Decimal.{length-decimal}
 
@@ -37,8 +37,8 @@ module _ (s : List ℕ) (b : Bytes s) where
     unfolding slotLine
     length-slot i l true e = rw e (length-blank i (omega (arith, fits-few (editionOf s) s f)))
     length-slot i l false e =
-        let w : Written (lastWrite s) (mark (editionOf s) s i) = written-facts (lastWrite s) (mark (editionOf s) s i) (not-blank-written (editionOf s) s f i l e) in
-        rw e (length-written i (markNumber (mark (editionOf s) s i)) (markLength (mark (editionOf s) s i)) (omega (arith, fits-few (editionOf s) s f)) (omega (arith, w .past, last-below s b (f .long))) (omega (arith, w .short)))
+        let w : Written (lastWrite s) (mark (editionOf s) s i) = mark-written (lastWrite s) (mark (editionOf s) s i) (not-blank-written (editionOf s) s f i l e) in
+        rw e (length-written i (markNumber (mark (editionOf s) s i)) (markLength (mark (editionOf s) s i)) (omega (arith, fits-few (editionOf s) s f)) (omega (arith, w .at-most, last-below s b (f .long))) (omega (arith, w .short)))
 
     length-slots : (n : ℕ) → n ≤ slots s → length (slotLines s n) ≤ 41 * n
     unfolding slotLines

@@ -14,9 +14,9 @@ use Rattle.octets.proofs.Bool.{and-right}
 use Rattle.octets.proofs.Parts.{length-put, part-put}
 use Rattle.cipher.specs.Key.{keyBytes}
 use Rattle.layout.specs.declared.Shape.{Shape}
-use Rattle.layout.specs.Layout.{slots, lastWrite, fit}
+use Rattle.layout.specs.Layout.{slots, lastWrite, fit, editionOf}
 use Rattle.layout.specs.Shape.{shapeOf, SheetOf}
-use Rattle.layout.proofs.Fits.{Fits, fit-facts, fits-sheet, fits-class-small}
+use Rattle.layout.proofs.Fits.{Fits, fit-facts, fits-sheet, fits-header, fits-class-small}
 use Rattle.listing.specs.Ascii.{ascii}
 use Rattle.listing.specs.Listing.{lineFeed, ended, line, headLine, slotLines, keyBits, listable, listing, listed}
 use Rattle.listing.specs.Appended.{Appended}
@@ -46,6 +46,9 @@ module _ (s : List ℕ) where
 
       pub sheet-long : 8 ≤ length s
       sheet-long = listable-fits .long
+
+      pub sheet-header : editionOf s .header ≤ length s
+      sheet-header = fits-header s listable-fits
 
       -- h is the shape that was read
       module _ (h : Shape) (q : h ≡ shapeOf s) where

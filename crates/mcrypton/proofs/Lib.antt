@@ -1,8 +1,11 @@
 pub mod Paths
 pub mod Opens
 pub mod Loop
+pub mod Four
 pub mod WordsOf
 pub mod ByteBlocks
 pub mod Calls
 pub mod Table
 pub mod FirstHalf
+pub mod Refusals
+pub mod Vectors

@@ -1,5 +1,5 @@
 -- One turn of the loops that encrypt and decrypt, for any step of the register and any key made from it.
-use mathlib.Core.Path.{_≡_, refl, sym, ap, ap₂, _∙_}
+use mathlib.Core.Path.{_≡_, refl, sym, ap, ap₂, _∙_, subst}
 use mathlib.Core.List.{List}
 use Prim.Native.Nat.{ℕ, zero, suc, _+_, _≤_}
 use native.Mathlib.Numerals.{add-one}
@@ -58,5 +58,11 @@ module _ (d : Direction) (p : ℕ) (step : Register → Register) (key : Registe
       twelve = omega arith
 
 -- a round by words is a round by any path
-pub by-words : (d : Direction) (p r : ℕ) (k a : List ℕ) {a′ : List ℕ} → a′ ≡ wordRound d k a → a′ ≡ pathRound d p r k a
+by-words : (d : Direction) (p r : ℕ) (k a : List ℕ) {a′ : List ℕ} → a′ ≡ wordRound d k a → a′ ≡ pathRound d p r k a
 by-words d p r k a e = e ∙ same-round d k a ∙ sym (any-path d p r k a)
+
+module _ {d : Direction} {p : ℕ} {step : Register → Register} {key : Register → List ℕ} {u : Register} {a₀ : List ℕ} where
+  -- one round more by words; n is its number, in the form that the code has it
+  pub word-more : {v v′ : Register} {k a a′ : List ℕ} (r n : ℕ) → n ≡ r + 1 → At d p step key u a₀ r v a → v′ ≡ step v → k ≡ key v′ → a′ ≡ wordRound d k a
+      → At d p step key u a₀ n v′ a′
+  word-more {v′} {k} {a} {a′} r n m h e i g = subst (λ (l : ℕ). At d p step key u a₀ l v′ a′) (sym m) (one-more d p step key u a₀ r h e i (by-words d p (r + 1) k a g))

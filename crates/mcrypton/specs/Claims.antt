@@ -4,10 +4,14 @@ use mathlib.Core.Path.{_≡_}
 use mathlib.Core.List.{List}
 use Rattle.rounds.specs.Array.{Block, sbox, offset, opposite, π, φ, nibbleRound, wordRound}
 use Rattle.rounds.specs.declared.Direction.{Direction}
+use Rattle.rounds.specs.declared.Direction.the-variants.{Encrypt, Decrypt}
 use Rattle.schedule.specs.Schedule.{register, backRegister, backward, encryptionKey, decryptionKey}
 use Rattle.mcrypton.specs.Cipher.{byWords, after, encryptBlock, decryptBlock}
 
 pub record FirstHalf (k : List ℕ) : Type 0 where
+  -- a block is encrypted by σ with round key 0, rounds 1 to 12 and φ, and decrypted so with the decryption keys
+  pub encrypts : (p : ℕ) (b : List ℕ) → encryptBlock p k b ≡ φ (after Encrypt p (encryptionKey k) b 12)
+  pub decrypts : (p : ℕ) (c : List ℕ) → decryptBlock p k c ≡ φ (after Decrypt p (decryptionKey k) c 12)
   -- decrypting by any path number undoes encrypting by any path number, and the other way round
   pub opens : (p q : ℕ) (b : List ℕ) → Block b → decryptBlock q k (encryptBlock p k b) ≡ b
   pub seals : (p q : ℕ) (c : List ℕ) → Block c → encryptBlock p k (decryptBlock q k c) ≡ c

@@ -4,6 +4,7 @@ use schedule::Register;
 ghost use mathlib.Core.Path.{_≡_};
 ghost use Prim.Native.Nat.{_/_, _%_, _<_};
 ghost use lib.ListN.{getD, length};
+ghost use mathlib.Core.List.{map};
 ghost use Rattle.rounds.specs.Array.{tables};
 ghost use Rattle.schedule.specs.Schedule.{eightWords, start as startOf};
 ghost use Rattle.mcrypton.specs.Cipher.{pathRound};
@@ -85,6 +86,7 @@ fn decrypt_by_path(p: u16, u: Register, b: [u16; 4]) -> [u16; 4]
 }
 
 // A block encrypted by words alone: any path number gives the same, and this spares the choice in each round.
+// Four rounds a turn take a seventh of the instructions off: what is between them need not be laid out for the next turn.
 pub fn encrypt_words(u: Register, b: [u16; 4]) -> [u16; 4]
     requires { ⌜ u .round ≡ 0 ⌝ }
     ensures { λ z. ⌜ z ≡ encryptFrom 0 u b ⌝ }
@@ -95,11 +97,21 @@ pub fn encrypt_words(u: Register, b: [u16; 4]) -> [u16; 4]
     let mut a = rounds::sigma(v.round_key(&s), b);
     let mut r: usize = 0;
     while r < 12 {
-        let next = v.forward();
-        let array = rounds::word_round(&t, Direction::Encrypt, next.round_key(&s), a);
-        v = next;
-        a = array;
-        r += 1;
+        let u1 = v.forward();
+        let k1 = u1.round_key(&s);
+        let a1 = rounds::word_round(&t, Direction::Encrypt, k1, a);
+        let u2 = u1.forward();
+        let k2 = u2.round_key(&s);
+        let a2 = rounds::word_round(&t, Direction::Encrypt, k2, a1);
+        let u3 = u2.forward();
+        let k3 = u3.round_key(&s);
+        let a3 = rounds::word_round(&t, Direction::Encrypt, k3, a2);
+        let u4 = u3.forward();
+        let k4 = u4.round_key(&s);
+        let a4 = rounds::word_round(&t, Direction::Encrypt, k4, a3);
+        v = u4;
+        a = a4;
+        r += 4;
     }
     rounds::phi(a)
 }
@@ -115,13 +127,84 @@ pub fn decrypt_words(u: Register, b: [u16; 4]) -> [u16; 4]
     let mut a = rounds::sigma(rounds::phi(v.round_key(&s)), b);
     let mut r: usize = 0;
     while r < 12 {
-        let next = v.backward();
-        let array = rounds::word_round(&t, Direction::Decrypt, rounds::phi(next.round_key(&s)), a);
-        v = next;
-        a = array;
-        r += 1;
+        let u1 = v.backward();
+        let k1 = rounds::phi(u1.round_key(&s));
+        let a1 = rounds::word_round(&t, Direction::Decrypt, k1, a);
+        let u2 = u1.backward();
+        let k2 = rounds::phi(u2.round_key(&s));
+        let a2 = rounds::word_round(&t, Direction::Decrypt, k2, a1);
+        let u3 = u2.backward();
+        let k3 = rounds::phi(u3.round_key(&s));
+        let a3 = rounds::word_round(&t, Direction::Decrypt, k3, a2);
+        let u4 = u3.backward();
+        let k4 = rounds::phi(u4.round_key(&s));
+        let a4 = rounds::word_round(&t, Direction::Decrypt, k4, a3);
+        v = u4;
+        a = a4;
+        r += 4;
     }
     rounds::phi(a)
+}
+
+// Four blocks decrypted in one walk of the register: a round key is made once for the four.
+pub fn decrypt_four(u: Register, b: [[u16; 4]; 4]) -> [[u16; 4]; 4]
+    requires { ⌜ u .round ≡ 12 ⌝ }
+    ensures { λ z. ⌜ z ≡ map (decryptFrom 0 u) b ⌝ }
+{
+    let s = rounds::sbox_tables();
+    let t = rounds::word_tables(Direction::Decrypt);
+    let b0 = b[0];
+    let b1 = b[1];
+    let b2 = b[2];
+    let b3 = b[3];
+    let mut v = u;
+    let k0 = rounds::phi(v.round_key(&s));
+    let mut w = rounds::sigma(k0, b0);
+    let mut x = rounds::sigma(k0, b1);
+    let mut y = rounds::sigma(k0, b2);
+    let mut z = rounds::sigma(k0, b3);
+    let mut r: usize = 0;
+    while r < 12 {
+        let next = v.backward();
+        let k = rounds::phi(next.round_key(&s));
+        let w1 = rounds::word_round(&t, Direction::Decrypt, k, w);
+        let x1 = rounds::word_round(&t, Direction::Decrypt, k, x);
+        let y1 = rounds::word_round(&t, Direction::Decrypt, k, y);
+        let z1 = rounds::word_round(&t, Direction::Decrypt, k, z);
+        v = next;
+        w = w1;
+        x = x1;
+        y = y1;
+        z = z1;
+        r += 1;
+    }
+    [
+        rounds::phi(w),
+        rounds::phi(x),
+        rounds::phi(y),
+        rounds::phi(z),
+    ]
+}
+
+// The path number decided once: words alone where all twelve bits that count are 1.
+fn encrypt_chosen(p: u16, u: Register, b: [u16; 4]) -> [u16; 4]
+    requires { ⌜ u .round ≡ 0 ⌝ }
+    ensures { λ z. ⌜ z ≡ encryptFrom p u b ⌝ }
+{
+    if p % 4096 == 4095 {
+        return encrypt_words(u, b);
+    }
+    encrypt_by_path(p, u, b)
+}
+
+fn decrypt_chosen(p: u16, u: Register, b: [u16; 4]) -> [u16; 4]
+    requires { ⌜ u .round ≡ 12 ⌝ }
+    ensures { λ z. ⌜ z ≡ decryptFrom p u b ⌝ }
+{
+    if p % 4096 == 4095 {
+        return decrypt_words(u, b);
+    }
+    decrypt_by_path(p, u, b)
 }
 
 fn wide(x: u8) -> u16
@@ -245,7 +328,7 @@ pub fn encrypt_block(key: &[u8], block: &[u8], path: u16, out: &mut [u8]) -> Blo
         return BlockAnswer::WrongSpan;
     }
     let b = block_words(octets::block_at(block, 0));
-    put_block(encrypt_by_path(path, start(key), b), out)
+    put_block(encrypt_chosen(path, start(key), b), out)
 }
 
 // One block decrypted by the path number.
@@ -262,5 +345,5 @@ pub fn decrypt_block(key: &[u8], block: &[u8], path: u16, out: &mut [u8]) -> Blo
         return BlockAnswer::WrongSpan;
     }
     let c = block_words(octets::block_at(block, 0));
-    put_block(decrypt_by_path(path, start(key).backward_start(), c), out)
+    put_block(decrypt_chosen(path, start(key).backward_start(), c), out)
 }

@@ -24,14 +24,15 @@ module _ (F : ℕ → List ℕ → List ℕ → List ℕ) (n : ℕ) (start p : L
   unfolding ChainedTo
   chained-none out = rw sub-zero
 
-  chained-more : (c c′ b out out′ : List ℕ) (j : ℕ) → ChainedTo c j out → j < n → ((k : ℕ) → F (suc k) c (drop (8 * j) p) ≡ b ++ F k c′ (drop 8 (drop (8 * j) p)))
-      → length b ≡ 8 → out′ ≡ put out (8 * j) b → length out ≡ 8 * n → ChainedTo c′ (j + 1) out′
+  -- m blocks more, which are b
+  chained-more : (m : ℕ) (c c′ b out out′ : List ℕ) (j : ℕ) → ChainedTo c j out → j + m ≤ n → ((k : ℕ) → F (m + k) c (drop (8 * j) p) ≡ b ++ F k c′ (drop (8 * m) (drop (8 * j) p)))
+      → length b ≡ 8 * m → out′ ≡ put out (8 * j) b → length out ≡ 8 * n → ChainedTo c′ (j + m) out′
   unfolding ChainedTo
-  chained-more c c′ b out out′ j v l f s o h =
-      let m : n - j ≡ suc (n - (j + 1)) = omega arith in
-      let q : 8 * (j + 1) ≡ 8 * j + length b = omega arith in
-      let t : take (8 * (j + 1)) out′ ≡ take (8 * j) out ++ b = rw (o, q) (take-put out b (8 * j) (omega arith)) in
-      v ∙ rw (m, f (n - (j + 1)), t, q, s, ← drop-drop 8 (8 * j) p, append-assoc)
+  chained-more m c c′ b out out′ j v l f s o h =
+      let e : n - j ≡ m + (n - (j + m)) = omega arith in
+      let q : 8 * (j + m) ≡ 8 * j + length b = omega arith in
+      let t : take (8 * (j + m)) out′ ≡ take (8 * j) out ++ b = rw (o, q) (take-put out b (8 * j) (omega arith)) in
+      v ∙ rw (e, f (n - (j + m)), t, q, s, ← drop-drop (8 * m) (8 * j) p, append-assoc)
 
   chained-end : (c out : List ℕ) (j : ℕ) → ChainedTo c j out → j ≤ n → n ≤ j → length out ≡ 8 * n → ((d s : List ℕ) → F 0 d s ≡ []) → out ≡ F n start p
   unfolding ChainedTo
@@ -39,11 +40,18 @@ module _ (F : ℕ → List ℕ → List ℕ → List ℕ) (n : ℕ) (start p : L
       let z : n - j ≡ 0 = omega arith in
       sym (v ∙ rw (z, f c (drop (8 * j) p), append-nil) (take-all (8 * j) out (omega arith)))
 
+-- a part that goes to the end
+to-end : (s : List ℕ) (a : ℕ) → take (length s - a) (drop a s) ≡ drop a s
+to-end s a = take-all (length s - a) (drop a s) (omega (arith, length-drop a s))
+
+one-add : (k : ℕ) → 1 + k ≡ suc k
+one-add k = omega arith
+
 module _ (E : List ℕ → List ℕ) where
   pub encrypt-more : (n : ℕ) (start p c b x c′ out out′ : List ℕ) (j : ℕ) → ChainedTo (cbcEncrypt E) n start p c j out → j < n → b ≡ part p (8 * j) 8 → x ≡ xorBytes b c → c′ ≡ E x
       → length c′ ≡ 8 → out′ ≡ put out (8 * j) c′ → length out ≡ 8 * n → ChainedTo (cbcEncrypt E) n start p c′ (j + 1) out′
   unfolding cbcEncrypt
-  encrypt-more n start p c b x c′ out out′ j v l e f g = chained-more (cbcEncrypt E) n start p c c′ c′ out out′ j v l (λ k. rw (← e, ← f, ← g))
+  encrypt-more n start p c b x c′ out out′ j v l e f g = chained-more (cbcEncrypt E) n start p 1 c c′ c′ out out′ j v (omega arith) (λ k. rw (one-add k, ← e, ← f, ← g))
 
   pub encrypt-end : (n : ℕ) (start p c out : List ℕ) (j : ℕ) → ChainedTo (cbcEncrypt E) n start p c j out → j ≤ n → n ≤ j → length out ≡ 8 * n → out ≡ cbcEncrypt E n start p
   unfolding cbcEncrypt
@@ -53,11 +61,36 @@ module _ (D : List ℕ → List ℕ) where
   pub decrypt-more : (n : ℕ) (start s c b x y out out′ : List ℕ) (j : ℕ) → ChainedTo (cbcDecrypt D) n start s c j out → j < n → b ≡ part s (8 * j) 8 → x ≡ D b → y ≡ xorBytes x c
       → length y ≡ 8 → out′ ≡ put out (8 * j) y → length out ≡ 8 * n → ChainedTo (cbcDecrypt D) n start s b (j + 1) out′
   unfolding cbcDecrypt
-  decrypt-more n start s c b x y out out′ j v l e f g = chained-more (cbcDecrypt D) n start s c b y out out′ j v l (λ k. rw (← e, ← f, ← g))
+  decrypt-more n start s c b x y out out′ j v l e f g = chained-more (cbcDecrypt D) n start s 1 c b y out out′ j v (omega arith) (λ k. rw (one-add k, ← e, ← f, ← g))
 
   pub decrypt-end : (n : ℕ) (start s c out : List ℕ) (j : ℕ) → ChainedTo (cbcDecrypt D) n start s c j out → j ≤ n → n ≤ j → length out ≡ 8 * n → out ≡ cbcDecrypt D n start s
   unfolding cbcDecrypt
   decrypt-end n start s c out j v l g h = chained-end (cbcDecrypt D) n start s c out j v l g h (λ d t. refl)
+
+  -- the first m blocks, and n more: the block between them is the last of the m
+  decrypt-cut : (m n : ℕ) (c s : List ℕ) → length c ≡ 8 → 8 * m ≤ length s
+      → cbcDecrypt D (m + n) c s ≡ cbcDecrypt D m c s ++ cbcDecrypt D n (part (c ++ s) (8 * m) 8) (drop (8 * m) s)
+  unfolding cbcDecrypt
+  decrypt-cut zero n c s hc hs = rw (zero-add n, part-append-head c s 8 hc)
+  decrypt-cut (suc m) n c s hc hs =
+      let q : 8 * suc m ≡ 8 + 8 * m = omega arith in
+      let i : cbcDecrypt D (m + n) (take 8 s) (drop 8 s) ≡ cbcDecrypt D m (take 8 s) (drop 8 s) ++ cbcDecrypt D n (part s (8 * m) 8) (drop (8 * m) (drop 8 s)) =
+      decrypt-cut m n (take 8 s) (drop 8 s) (length-take-le 8 s (omega arith)) (omega (arith, length-drop 8 s))
+      ∙ rw take-append-drop in
+      rw (suc-add m n, part-append-right c s (8 * suc m) (8 * m) 8 (omega arith), q, ← drop-drop (8 * m) 8 s, append-assoc)
+      (ap (λ (t : List ℕ). xorBytes (D (take 8 s)) c ++ t) i)
+
+  -- m blocks at a time: they are q, and b at place i is the last of them
+  pub decrypt-blocks : (m n : ℕ) (start s c b q out out′ : List ℕ) (j i : ℕ) → ChainedTo (cbcDecrypt D) n start s c j out → j + m ≤ n → 8 * n ≤ length s → length c ≡ 8
+      → q ≡ cbcDecrypt D m c (take (length s - 8 * j) (drop (8 * j) s)) → length q ≡ 8 * m → i + 8 ≡ 8 * j + 8 * m → 8 * j ≤ i → b ≡ part s i 8 → out′ ≡ put out (8 * j) q → length out ≡ 8 * n
+      → ChainedTo (cbcDecrypt D) n start s b (j + m) out′
+  decrypt-blocks m n start s c b q out out′ j i v l g h e z r w f o =
+      chained-more (cbcDecrypt D) n start s m c b q out out′ j v l
+      (λ k. decrypt-cut m k c (drop (8 * j) s) h (omega (arith, length-drop (8 * j) s)) ∙ ap₂ (λ (x y : List ℕ). x ++ cbcDecrypt D k y (drop (8 * m) (drop (8 * j) s))) (sym (e ∙ ap (cbcDecrypt D m c) (to-end s (8 * j)))) last)
+      z o
+    where
+      last : part (c ++ drop (8 * j) s) (8 * m) 8 ≡ b
+      last = part-append-right c (drop (8 * j) s) (8 * m) (i - 8 * j) 8 (omega arith) ∙ ap (take 8) (drop-drop (i - 8 * j) (8 * j) s ∙ ap (λ (x : ℕ). drop x s) {x = 8 * j + (i - 8 * j)} {y = i} (omega arith)) ∙ sym f
 
 -- texts of whole blocks
 no-blocks : ByteBlocks 0 []
@@ -144,16 +177,7 @@ module _ {E D : List ℕ → List ℕ} (promise : Invertible E D) where
 
   decrypt-split : (m n : ℕ) (c s : List ℕ) → ByteBlock c → ByteBlocks (m + n) s
       → cbcDecrypt D (m + n) c s ≡ cbcDecrypt D m c s ++ cbcDecrypt D n (part (c ++ s) (8 * m) 8) (drop (8 * m) s)
-  unfolding cbcDecrypt
-  decrypt-split zero n c s hc hs = rw (zero-add n, part-append-head c s 8 (hc .size))
-  decrypt-split (suc m) n c s hc hs =
-      let hs′ : ByteBlocks (suc (m + n)) s = rw suc-add at hs in
-      let q : 8 * suc m ≡ 8 + 8 * m = omega arith in
-      let i : cbcDecrypt D (m + n) (take 8 s) (drop 8 s) ≡ cbcDecrypt D m (take 8 s) (drop 8 s) ++ cbcDecrypt D n (part s (8 * m) 8) (drop (8 * m) (drop 8 s)) =
-      decrypt-split m n (take 8 s) (drop 8 s) (first-block hs′) (other-blocks hs′)
-      ∙ rw take-append-drop in
-      rw (suc-add m n, part-append-right c s (8 * suc m) (8 * m) 8 (omega (arith, hc .size)), q, ← drop-drop (8 * m) 8 s, append-assoc)
-      (ap (λ (t : List ℕ). xorBytes (D (take 8 s)) c ++ t) i)
+  decrypt-split m n c s hc hs = decrypt-cut D m n c s (hc .size) (omega (arith, hs .size))
 
   pub cbc-laws : CBC E D
   cbc-laws =

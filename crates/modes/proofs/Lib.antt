@@ -4,3 +4,5 @@ pub mod Subkeys
 pub mod Authentication
 pub mod Answers
 pub mod Laws
+pub mod Refusals
+pub mod Cases

@@ -4,3 +4,5 @@ pub mod CMAC
 pub mod Steps
 pub mod Answers
 pub mod Laws
+pub mod Refusals
+pub mod Cases

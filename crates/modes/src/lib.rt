@@ -3,6 +3,7 @@ ghost use mathlib.Core.Path.{_≡_};
 ghost use mathlib.Core.List.{_++_};
 ghost use Prim.Native.Nat.{_+_, _*_, _/_, _%_, _≤_, _<_};
 ghost use lib.ListN.{length};
+ghost use Rattle.octets.specs.Bytes.{put};
 ghost use Rattle.cipher.specs.Key.{encrypted, decrypted};
 ghost use Rattle.modes.specs.Xor.{xorBytes};
 ghost use Rattle.modes.specs.CBC.{cbcEncrypt, cbcDecrypt};
@@ -42,6 +43,46 @@ pub fn cbc_encrypt(k: cipher::Key, start: [u8; 8], p: &[u8], out: &mut [u8])
     }
 }
 
+// A block of plain text at place a: d is the block decrypted, c what it is chained to.
+fn put_plain(out: &mut [u8], a: usize, d: [u8; 8], c: [u8; 8])
+    requires { ⌜ a + 8 ≤ length (now out) ⌝ }
+    ensures text { λ _. ⌜ now (out .exit) ≡ put (now (out .entry)) a (xorBytes d c) ⌝ }
+    ensures size { λ _. ⌜ length (xorBytes d c) ≡ 8 ⌝ }
+{
+    let plain = xor_block(d, c);
+    octets::copy_part(out, a, &plain);
+}
+
+// The first block of s, which is chained to c.
+fn decrypt_one(k: cipher::Key, c: [u8; 8], s: &[u8], out: &mut [u8])
+    requires { ⌜ (8 ≤ length (now s)) × (length (now out) ≡ 8) ⌝ }
+    ensures { λ _. ⌜ now (out .exit) ≡ cbcDecrypt (decrypted k) 1 c (now (s .entry)) ⌝ }
+{
+    let d = cipher::decrypt(k, octets::block_at(s, 0));
+    put_plain(out, 0, d, c);
+}
+
+// The first four blocks of s, of which the first is chained to c.
+fn decrypt_four(k: cipher::Key, c: [u8; 8], s: &[u8], out: &mut [u8])
+    requires { ⌜ (32 ≤ length (now s)) × (length (now out) ≡ 32) ⌝ }
+    ensures { λ _. ⌜ now (out .exit) ≡ cbcDecrypt (decrypted k) 4 c (now (s .entry)) ⌝ }
+{
+    let c0 = octets::block_at(s, 0);
+    let c1 = octets::block_at(s, 8);
+    let c2 = octets::block_at(s, 16);
+    let c3 = octets::block_at(s, 24);
+    let d = cipher::decrypt_four(k, [c0, c1, c2, c3]);
+    let d0 = d[0];
+    let d1 = d[1];
+    let d2 = d[2];
+    let d3 = d[3];
+    put_plain(out, 0, d0, c);
+    put_plain(out, 8, d1, c0);
+    put_plain(out, 16, d2, c1);
+    put_plain(out, 24, d3, c2);
+}
+
+// Four blocks a turn, and the rest one by one.
 pub fn cbc_decrypt(k: cipher::Key, start: [u8; 8], s: &[u8], out: &mut [u8])
     requires { ⌜ length (now s) ≡ length (now out) ⌝ }
     requires { ⌜ length (now s) ≡ 8 * (length (now s) / 8) ⌝ }
@@ -51,11 +92,18 @@ pub fn cbc_decrypt(k: cipher::Key, start: [u8; 8], s: &[u8], out: &mut [u8])
     let mut before = start;
     let mut j = 0;
     while j < n {
-        let block = octets::block_at(s, 8 * j);
-        let plain = xor_block(cipher::decrypt(k, block), before);
-        octets::copy_part(out, 8 * j, &plain);
-        before = block;
-        j += 1;
+        let a = 8 * j;
+        if j + 4 <= n {
+            decrypt_four(k, before, &s[a..], &mut out[a..a + 32]);
+            let last = octets::block_at(s, a + 24);
+            before = last;
+            j += 4;
+        } else {
+            decrypt_one(k, before, &s[a..], &mut out[a..a + 8]);
+            let last = octets::block_at(s, a);
+            before = last;
+            j += 1; // of the rest
+        }
     }
 }
 

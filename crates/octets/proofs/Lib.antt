@@ -7,3 +7,4 @@ pub mod Zeros
 pub mod Numbers
 pub mod Compare
 pub mod Outcome
+pub mod Clauses

@@ -1,12 +1,14 @@
 -- The word path: the rule of the tables, and the two meanings of a round agree.
 use mathlib.Core.Path.{_≡_, refl, sym, ap, ap₂, _∙_}
 use mathlib.Core.List.{List, [], _∷_}
-use Prim.Native.Nat.{ℕ, _+_, _*_, _<_}
+use Prim.Native.Nat.{ℕ, _+_, _*_, _%_, _<_}
+use native.Mathlib.Omega.{arith}
 use lib.Bits.{bitAnd, bitXor, xor-block, xor-lt}
 use lib.Dec.{lit<}
+use lib.ListN.{getD}
 use Rattle.octets.proofs.Test.{agree2, agree3}
 use Rattle.rounds.specs.Word.{rotate1, rotate, row, nibble, xor4}
-use Rattle.rounds.specs.Array.{cell, sboxes, sbox, offset, mask, γ, π, τ, σ, φ, nibbleRound, encryptTables, decryptTables, entry, wordRow, wordRound, ruleEntry}
+use Rattle.rounds.specs.Array.{cell, sboxes, sbox, offset, mask, γ, π, τ, σ, φ, nibbleRound, encryptTables, decryptTables, tables, entry, wordRow, wordRound, ruleEntry}
 use Rattle.rounds.specs.declared.Direction.{Direction}
 use Rattle.rounds.specs.declared.Direction.the-variants.{Encrypt, Decrypt}
 use Rattle.rounds.proofs.Xor4.{xor4-ext}
@@ -18,12 +20,21 @@ unfolding entry encryptTables decryptTables sbox sboxes rotate rotate1
 table-rule Encrypt = agree2 4 16 (entry Encrypt) (ruleEntry Encrypt) tt
 table-rule Decrypt = agree2 4 16 (entry Decrypt) (ruleEntry Decrypt) tt
 
--- what nibble k of column i adds to the new row i
+-- what nibble k of column i adds to the new row i, by the rule of the entry
+column-rule : (d : Direction) (i k x : ℕ) → i < 4 → k < 4 → x < 16
+    → row (λ j. bitAnd (sbox (i + k + offset d) x) (mask (i + j + k))) ≡ ruleEntry d ((i + k + offset d) % 4) x
+unfolding sbox sboxes rotate rotate1
+column-rule Encrypt = agree3 4 4 16 (λ i k x. row (λ j. bitAnd (sbox (i + k + 0) x) (mask (i + j + k)))) (λ i k x. ruleEntry Encrypt ((i + k + 0) % 4) x) tt
+column-rule Decrypt = agree3 4 4 16 (λ i k x. row (λ j. bitAnd (sbox (i + k + 2) x) (mask (i + j + k)))) (λ i k x. ruleEntry Decrypt ((i + k + 2) % 4) x) tt
+
+entry-period : (d : Direction) (s x : ℕ) → entry d (s % 4) x ≡ entry d s x
+unfolding entry
+entry-period d s x = ap (λ (n : ℕ). getD (getD (tables d) n []) x 0) {x = s % 4 % 4} {y = s % 4} (omega arith)
+
 column : (d : Direction) (i k x : ℕ) → i < 4 → k < 4 → x < 16
     → row (λ j. bitAnd (sbox (i + k + offset d) x) (mask (i + j + k))) ≡ entry d (i + k + offset d) x
-unfolding entry encryptTables decryptTables sbox sboxes
-column Encrypt = agree3 4 4 16 (λ i k x. row (λ j. bitAnd (sbox (i + k + 0) x) (mask (i + j + k)))) (λ i k x. entry Encrypt (i + k + 0) x) tt
-column Decrypt = agree3 4 4 16 (λ i k x. row (λ j. bitAnd (sbox (i + k + 2) x) (mask (i + j + k)))) (λ i k x. entry Decrypt (i + k + 2) x) tt
+column d i k x hi hk hx =
+    column-rule d i k x hi hk hx ∙ sym (table-rule d ((i + k + offset d) % 4) x (omega arith) hx) ∙ entry-period d (i + k + offset d) x
 
 row-xor : (f g : ℕ → ℕ) → ((j : ℕ) → f j < 16) → ((j : ℕ) → g j < 16) → row (λ j. bitXor (f j) (g j)) ≡ bitXor (row f) (row g)
 row-xor f g hf hg =

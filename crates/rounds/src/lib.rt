@@ -232,17 +232,13 @@ fn sub(t: &[[u16; 16]; 4], s: usize, x: u16) -> u16
     look_up(t, s, x)
 }
 
-// S0 on each nibble of a word.
-pub fn sub_word(t: &[[u16; 16]; 4], w: u16) -> u16
-    requires { ⌜ now t ≡ sboxes ⌝ }
-    ensures { λ r. ⌜ r ≡ row (λ i. sbox 0 (nibbleOf w i)) ⌝ }
+// S0 of nibble i of a word.
+pub fn sub_nibble(t: &[[u16; 16]; 4], w: u16, i: usize) -> u16
+    requires { ⌜ (now t ≡ sboxes) × (i < 4) ⌝ }
+    ensures entry { λ r. ⌜ r ≡ sbox 0 (nibbleOf w i) ⌝ }
+    ensures small { λ r. ⌜ r < 16 ⌝ }
 {
-    pack(
-        sub(t, 0, nibble(w, 0)),
-        sub(t, 0, nibble(w, 1)),
-        sub(t, 0, nibble(w, 2)),
-        sub(t, 0, nibble(w, 3)),
-    )
+    sub(t, 0, nibble(w, i))
 }
 
 // Row j of γ: nibble i of the row w goes through the S-box with index i + j + o.
@@ -391,13 +387,10 @@ pub fn word_round(t: &[[u16; 16]; 4], d: Direction, k: [u16; 4], a: [u16; 4]) ->
     ensures { λ r. ⌜ r ≡ wordRound d k a ⌝ }
 {
     let o = index_offset(d);
-    sigma(
-        k,
-        [
-            word_row(t, o, a, 0),
-            word_row(t, o, a, 1),
-            word_row(t, o, a, 2),
-            word_row(t, o, a, 3),
-        ],
-    )
+    [
+        word_row(t, o, a, 0) ^ k[0],
+        word_row(t, o, a, 1) ^ k[1],
+        word_row(t, o, a, 2) ^ k[2],
+        word_row(t, o, a, 3) ^ k[3],
+    ]
 }

@@ -1,8 +1,10 @@
 // The key schedule of mCrypton (document 000, 2.3): a register that is stepped forward or backward. No round key is stored.
 ghost use mathlib.Core.Path.{_≡_};
-ghost use Prim.Native.Nat.{_<_};
+ghost use Prim.Native.Nat.{_*_, _<_};
+ghost use lib.Bits.{bitXor};
 ghost use Rattle.rounds.specs.Array.{sboxes};
-ghost use Rattle.schedule.specs.Schedule.{forward as forwardOf, backward as backwardOf, registerT as registerTOf, lastWord, roundKey, backStart};
+ghost use Rattle.rounds.specs.Word.{nibble};
+ghost use Rattle.schedule.specs.Schedule.{forward as forwardOf, backward as backwardOf, subWord, lastWord, roundKey, backStart};
 
 // A key register: up to eight 16-bit words, the word count and the round.
 pub struct Register {
@@ -13,6 +15,15 @@ pub struct Register {
 
 // The constants c_0 to c_12.
 const CONSTANTS: [u16; 13] = [1, 2, 4, 8, 3, 6, 12, 11, 5, 10, 7, 14, 15];
+
+// Nibble i of T, where w is word 0 of the register and c the constant of its round.
+fn t_nibble(s: &[[u16; 16]; 4], w: u16, c: u16, i: usize) -> u16
+    requires { ⌜ (now s ≡ sboxes) × (c < 16) × (i < 4) ⌝ }
+    ensures value { λ r. ⌜ r ≡ nibble (bitXor (subWord w) (c * 0x1111)) i ⌝ }
+    ensures small { λ r. ⌜ r < 16 ⌝ }
+{
+    rounds::sub_nibble(s, w, i) ^ c
+}
 
 impl Register {
     // The register of the next round.
@@ -172,17 +183,6 @@ impl Register {
         }
     }
 
-    // T of the register, with the S-boxes lent.
-    fn register_t(self, s: &[[u16; 16]; 4]) -> u16
-        requires { ⌜ (self .round < 13) × (now s ≡ sboxes) ⌝ }
-        ensures { λ r. ⌜ r ≡ registerTOf self ⌝ }
-    {
-        let u = self.words;
-        let round = self.round;
-        let c = CONSTANTS;
-        rounds::sub_word(s, u[0]) ^ c[round] * 0x1111
-    }
-
     // The word that the last round key word is made from.
     fn last(self) -> u16
         ensures { λ r. ⌜ r ≡ lastWord self ⌝ }
@@ -197,13 +197,16 @@ impl Register {
         requires { ⌜ (self .round < 13) × (now s ≡ sboxes) ⌝ }
         ensures { λ r. ⌜ r ≡ roundKey self ⌝ }
     {
-        let t = self.register_t(s);
         let u = self.words;
+        let round = self.round;
+        let c = CONSTANTS;
+        let x = c[round];
+        let w = u[0];
         [
-            u[1] ^ rounds::nibble(t, 0) * 4096,
-            u[2] ^ rounds::nibble(t, 1) * 256,
-            u[3] ^ rounds::nibble(t, 2) * 16,
-            self.last() ^ rounds::nibble(t, 3) * 1,
+            u[1] ^ t_nibble(s, w, x, 0) * 4096,
+            u[2] ^ t_nibble(s, w, x, 1) * 256,
+            u[3] ^ t_nibble(s, w, x, 2) * 16,
+            self.last() ^ t_nibble(s, w, x, 3) * 1,
         ]
     }
 }

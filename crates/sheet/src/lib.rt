@@ -3,19 +3,15 @@ use captions::Answer;
 use captions::Verdict;
 ghost use mathlib.Core.Path.{_≡_};
 ghost use Rattle.captions.specs.Answers.{outcome};
+ghost use Rattle.captions.specs.Captions.{pair};
 ghost use Rattle.captions.specs.Calls.{writing, clearing, reading, blanking};
-ghost use Rattle.sheet.specs.Inner.{pair};
 
-mod seal;
-mod unseal;
-mod verdict;
-
-// Stores n, t, edition 1, w = 0 and zeros.
+// Stores a blank sheet of n slots: n, t, the edition, w = 0 and zeros.
 pub fn blank(sheet: &mut [u8], n: usize, t: usize) -> Answer
     ensures { λ r. ⌜ outcome r (now (sheet .exit)) ≡ blanking (now (sheet .entry)) n t ⌝ }
 {
-    let v = verdict::blank_verdict(sheet, n, t);
-    if let Verdict::Refuse(a) = v {
+    let blanking = verdicts::blank_verdict(sheet, n, t);
+    if let Verdict::Refuse(a) = blanking {
         return a;
     }
     layout::put_blank(sheet, n, t);
@@ -32,11 +28,11 @@ pub fn write(
 ) -> Answer
     ensures { λ r. ⌜ outcome r (now (sheet .exit)) ≡ writing (pair (now (sealing .entry)) (now (checking .entry))) (now (sheet .entry)) slot (now (caption .entry)) ⌝ }
 {
-    let v = verdict::write_verdict(sealing, checking, sheet, slot, caption);
-    if let Verdict::Refuse(a) = v {
+    let writing = verdicts::write_verdict(sealing, checking, sheet, slot, caption);
+    if let Verdict::Refuse(a) = writing {
         return a;
     }
-    seal::put_caption(sealing, checking, sheet, slot, caption);
+    slots::seal::put_caption(sealing, checking, sheet, slot, caption);
     Answer::Accepted(0)
 }
 
@@ -44,8 +40,8 @@ pub fn write(
 pub fn clear(sheet: &mut [u8], slot: usize) -> Answer
     ensures { λ r. ⌜ outcome r (now (sheet .exit)) ≡ clearing (now (sheet .entry)) slot ⌝ }
 {
-    let v = verdict::clear_verdict(sheet, slot);
-    if let Verdict::Refuse(a) = v {
+    let clearing = verdicts::clear_verdict(sheet, slot);
+    if let Verdict::Refuse(a) = clearing {
         return a;
     }
     let h = layout::sheet_shape(sheet);
@@ -58,9 +54,9 @@ pub fn read(sealing: &[u8], checking: &[u8], sheet: &[u8], slot: usize, window: 
     ensures { λ r. ⌜ outcome r (now (window .exit)) ≡ reading (pair (now (sealing .entry)) (now (checking .entry))) (now (sheet .entry)) slot (now (window .entry)) ⌝ }
 {
     octets::fill_zero(window);
-    let v = verdict::read_verdict(sealing, checking, sheet, slot, window.len());
-    if let Verdict::Refuse(a) = v {
+    let reading = verdicts::read_verdict(sealing, checking, sheet, slot, window.len());
+    if let Verdict::Refuse(a) = reading {
         return a;
     }
-    unseal::show(sealing, checking, sheet, slot, window)
+    slots::unseal::show(sealing, checking, sheet, slot, window)
 }

@@ -1,6 +1,6 @@
 // Prints calls on a sheet of 3 slots, what each slot reads as, and the listing: what the second program prints as `vectors sheet`.
 use captions::Answer;
-ghost use Prim.Native.Nat.{_≤_};
+ghost use Prim.Native.Nat.{_≤_, _<_};
 ghost use lib.ListN.{length};
 
 fn numbers(number: usize, length: usize) {
@@ -38,6 +38,12 @@ fn line(name: &[u8], a: Answer, checking: &[u8], sheet: &[u8]) {
 
 fn write(sealing: &[u8], checking: &[u8], sheet: &mut [u8], slot: usize, caption: &[u8]) {
     let a = sheet::write(sealing, checking, sheet, slot, caption);
+    line(b"write ", a, checking, sheet);
+}
+
+// A write with another checking key than that of the lines.
+fn write_with(sealing: &[u8], other: &[u8], checking: &[u8], sheet: &mut [u8]) {
+    let a = sheet::write(sealing, other, sheet, 0, b"abc");
     line(b"write ", a, checking, sheet);
 }
 
@@ -92,11 +98,19 @@ fn refused_writes(sealing: &[u8], checking: &[u8], sheet: &mut [u8]) {
     write_overlong(sealing, checking, sheet);
 }
 
-fn calls(sealing: &[u8], checking: &[u8], sheet: &mut [u8]) {
+// Twin keys, and keys that differ in one bit.
+fn alike_writes(sealing: &[u8], near: &[u8], checking: &[u8], sheet: &mut [u8]) {
+    write_with(sealing, sealing, checking, sheet);
+    write_with(sealing, near, checking, sheet);
+}
+
+fn calls(sealing: &[u8], near: &[u8], checking: &[u8], sheet: &mut [u8]) {
     blank(checking, sheet);
     accepted_writes(sealing, checking, sheet);
     clear(checking, sheet, 0);
+    read(sealing, checking, sheet, 0);
     refused_writes(sealing, checking, sheet);
+    alike_writes(sealing, near, checking, sheet);
 }
 
 fn read(sealing: &[u8], checking: &[u8], sheet: &[u8], slot: usize) {
@@ -115,6 +129,7 @@ fn reads(sealing: &[u8], checking: &[u8], sheet: &[u8]) {
     read(sealing, checking, sheet, 1);
     read(sealing, checking, sheet, 2);
     read(sealing, checking, sheet, 3);
+    read(sealing, sealing, sheet, 1);
 }
 
 fn list(sheet: &[u8]) {
@@ -124,31 +139,36 @@ fn list(sheet: &[u8]) {
 }
 
 // The calls, reads and listing of a sheet.
-fn lines(sealing: &[u8], checking: &[u8]) {
+fn lines(sealing: &[u8], near: &[u8], checking: &[u8]) {
     let mut sheet = [0u8; 632];
-    calls(sealing, checking, &mut sheet);
+    calls(sealing, near, checking, &mut sheet);
     reads(sealing, checking, &sheet);
     list(&sheet);
 }
 
-// The lines under keys of as many bytes as sealing and checking have.
-fn lines_of(sealing: &mut [u8], checking: &mut [u8])
-    requires { ⌜ length (now sealing) ≤ 16 ⌝ }
+// The lines under keys of as many bytes as these have; near becomes the sealing key but for one bit.
+fn lines_of(sealing: &mut [u8], near: &mut [u8], checking: &mut [u8])
+    requires { ⌜ (length (now sealing) ≤ 16) × (0 < length (now near)) ⌝ }
 {
     let t = sealing.len() / 2;
     show::pattern(sealing, 29, 71 * t + 13);
+    show::pattern(near, 29, 71 * t + 13);
+    near[0] = near[0] ^ 1;
     show::pattern(checking, 29, 71 * (t + 1) + 13);
-    lines(sealing, checking);
+    lines(sealing, near, checking);
 }
 
 fn main() {
     let mut short = [0u8; 8];
+    let mut near_short = [0u8; 8];
     let mut other_short = [0u8; 8];
-    lines_of(&mut short, &mut other_short);
+    lines_of(&mut short, &mut near_short, &mut other_short);
     let mut middle = [0u8; 12];
+    let mut near_middle = [0u8; 12];
     let mut other_middle = [0u8; 12];
-    lines_of(&mut middle, &mut other_middle);
+    lines_of(&mut middle, &mut near_middle, &mut other_middle);
     let mut long = [0u8; 16];
+    let mut near_long = [0u8; 16];
     let mut other_long = [0u8; 16];
-    lines_of(&mut long, &mut other_long);
+    lines_of(&mut long, &mut near_long, &mut other_long);
 }

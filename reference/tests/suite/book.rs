@@ -1,6 +1,7 @@
 //! Lists of writes and clears against the book, with reads at the end
 //! (document 01, "The book of demand 3").
 
+use crate::edition::Edition;
 use crate::random::Random;
 use crate::support::*;
 use reference::Book;
@@ -26,8 +27,15 @@ fn random_caption(random: &mut Random) -> Vec<u8> {
 }
 
 /// Runs a list of calls on a sheet and on a book that agree at first.
-fn run(random: &mut Random, t: usize, n: usize, calls: usize, mut sheet: Vec<u8>, mut book: Book) {
-    let keys = pair(random, t);
+fn run(
+    random: &mut Random,
+    (edition, t): (Edition, usize),
+    calls: usize,
+    mut sheet: Vec<u8>,
+    mut book: Book,
+) {
+    let n = book.n;
+    let keys = pair(random, edition, t);
     for _ in 0..calls {
         let slot = random_slot(random, n);
         if random.below(4) == 0 {
@@ -49,11 +57,12 @@ fn run(random: &mut Random, t: usize, n: usize, calls: usize, mut sheet: Vec<u8>
 #[test]
 fn random_lists_on_small_sheets() {
     let mut random = Random::new(90);
-    for t in CLASSES {
+    for (edition, t) in kinds() {
         for _ in 0..40 {
             let n = 1 + random.below(6);
             let calls = random.below(40);
-            run(&mut random, t, n, calls, blank_sheet(n, t), Book::new(n));
+            let sheet = edition.blank_sheet(n, t);
+            run(&mut random, (edition, t), calls, sheet, Book::new(n));
         }
     }
 }
@@ -61,9 +70,10 @@ fn random_lists_on_small_sheets() {
 #[test]
 fn the_empty_list() {
     let mut random = Random::new(91);
-    for t in CLASSES {
+    for (edition, t) in kinds() {
         for n in [1, 2, 256] {
-            run(&mut random, t, n, 0, blank_sheet(n, t), Book::new(n));
+            let sheet = edition.blank_sheet(n, t);
+            run(&mut random, (edition, t), 0, sheet, Book::new(n));
         }
     }
 }
@@ -71,15 +81,9 @@ fn the_empty_list() {
 #[test]
 fn random_lists_on_the_longest_sheet() {
     let mut random = Random::new(92);
-    for t in CLASSES {
-        run(
-            &mut random,
-            t,
-            256,
-            300,
-            blank_sheet(256, t),
-            Book::new(256),
-        );
+    for (edition, t) in kinds() {
+        let sheet = edition.blank_sheet(256, t);
+        run(&mut random, (edition, t), 300, sheet, Book::new(256));
     }
 }
 
@@ -87,13 +91,13 @@ fn random_lists_on_the_longest_sheet() {
 #[test]
 fn random_lists_on_a_sheet_that_wears_out() {
     let mut random = Random::new(93);
-    for t in CLASSES {
+    for (edition, t) in kinds() {
         for left in [0, 1, 2, 5] {
-            let mut sheet = blank_sheet(3, t);
+            let mut sheet = edition.blank_sheet(3, t);
             set_w(&mut sheet, u32::MAX - left);
             let mut book = Book::new(3);
             book.count = u32::MAX - left;
-            run(&mut random, t, 3, 25, sheet, book);
+            run(&mut random, (edition, t), 25, sheet, book);
         }
     }
 }

@@ -1,5 +1,6 @@
 //! The listing text (document 01).
 
+use crate::edition::Edition;
 use crate::random::Random;
 use crate::support::*;
 use reference::listing;
@@ -18,9 +19,10 @@ fn the_example() {
 #[test]
 fn written_and_blank_slots() {
     let mut random = Random::new(80);
-    for (t, bits) in [(4, 64), (6, 96), (8, 128)] {
-        let keys = pair(&mut random, t);
-        let mut sheet = blank_sheet(3, t);
+    for (edition, t) in kinds() {
+        let bits = [64, 96, 128][t / 2 - 2];
+        let keys = pair(&mut random, edition, t);
+        let mut sheet = edition.blank_sheet(3, t);
         write(&keys, &mut sheet, 0, b"");
         write(&keys, &mut sheet, 2, &[1; 192]);
         write(&keys, &mut sheet, 1, &[2; 17]);
@@ -33,35 +35,42 @@ fn written_and_blank_slots() {
 
 #[test]
 fn the_greatest_numbers() {
-    let mut sheet = blank_sheet(256, 8);
-    set_w(&mut sheet, u32::MAX);
-    let mark = 8 + 16 * 255;
-    sheet[mark..mark + 6].copy_from_slice(&[0xff, 0xff, 0xff, 0xff, 0, 192]);
-    let text = text(&sheet);
-    assert!(text.starts_with("slots 256 key 128 last 4294967295\n0 blank\n"));
-    assert!(text.ends_with("\n254 blank\n255 written 4294967295 192\n"));
-    assert_eq!(text.lines().count(), 257);
+    for edition in Edition::ALL {
+        let mut sheet = edition.blank_sheet(256, 8);
+        set_w(&mut sheet, u32::MAX);
+        let mark = edition.mark_place(255).start;
+        sheet[mark..mark + 6].copy_from_slice(&[0xff, 0xff, 0xff, 0xff, 0, 192]);
+        let text = text(&sheet);
+        assert!(text.starts_with("slots 256 key 128 last 4294967295\n0 blank\n"));
+        assert!(text.ends_with("\n254 blank\n255 written 4294967295 192\n"));
+        assert_eq!(text.lines().count(), 257);
+    }
 }
 
 #[test]
 fn an_unfit_sheet_prints_unfit_alone() {
-    assert_eq!(text(&[]), "unfit\n");
-    let mut sheet = blank_sheet(1, 4);
-    sheet[215] = 1;
-    assert_eq!(text(&sheet), "unfit\n");
-    sheet[215] = 0;
-    assert_eq!(text(&sheet), "slots 1 key 64 last 0\n0 blank\n");
-    sheet.push(0);
-    assert_eq!(text(&sheet), "unfit\n");
+    for edition in Edition::ALL {
+        assert_eq!(text(&[]), "unfit\n");
+        let mut sheet = edition.blank_sheet(1, 4);
+        let last = sheet.len() - 1;
+        sheet[last] = 1;
+        assert_eq!(text(&sheet), "unfit\n");
+        sheet[last] = 0;
+        assert_eq!(text(&sheet), "slots 1 key 64 last 0\n0 blank\n");
+        sheet.push(0);
+        assert_eq!(text(&sheet), "unfit\n");
+    }
 }
 
 #[test]
 fn above_53256_bytes_prints_unfit_alone() {
-    let mut sheet = vec![0; 8 + 208 * 257];
-    sheet[..4].copy_from_slice(&[1, 1, 4, 1]);
-    assert_eq!(text(&sheet), "unfit\n");
-    sheet[1] = 0;
-    assert_eq!(text(&sheet), "unfit\n");
-    assert_eq!(text(&sheet[..53257]), "unfit\n");
-    assert!(text(&sheet[..53256]).starts_with("slots 256 key 64 last 0\n"));
+    for edition in Edition::ALL {
+        let longest = edition.sheet_length(256);
+        let mut sheet = edition.blank_sheet(257, 4);
+        assert_eq!(text(&sheet), "unfit\n");
+        sheet[1] = 0;
+        assert_eq!(text(&sheet), "unfit\n");
+        assert_eq!(text(&sheet[..longest + 1]), "unfit\n");
+        assert!(text(&sheet[..longest]).starts_with("slots 256 key 64 last 0\n"));
+    }
 }

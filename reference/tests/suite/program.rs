@@ -1,6 +1,6 @@
 //! The program at a shell.
 
-use crate::support::blank_sheet;
+use crate::edition::Edition;
 use std::io::Write;
 use std::process::{Command, Output, Stdio};
 
@@ -44,20 +44,24 @@ fn the_program_lists_a_sheet() {
     sheet[..4].copy_from_slice(&[0, 2, 4, 1]);
     let example = b"slots 2 key 64 last 0\n0 blank\n1 blank\n";
     assert_eq!(printed(&["list"], &sheet), example);
-    for n in [1, 256] {
-        let sheet = blank_sheet(n, 8);
-        assert_eq!(printed(&["list"], &sheet), reference::listing(&sheet));
+    for edition in Edition::ALL {
+        for n in [1, 256] {
+            let sheet = edition.blank_sheet(n, 8);
+            assert_eq!(printed(&["list"], &sheet), reference::listing(&sheet));
+        }
     }
 }
 
 #[test]
 fn the_program_prints_unfit_for_an_unfit_sheet() {
-    let mut longer = blank_sheet(256, 4);
-    longer.push(0);
-    assert_eq!(printed(&["list"], &longer), b"unfit\n");
-    longer.resize(1 << 20, 0);
-    assert_eq!(printed(&["list"], &longer), b"unfit\n");
-    assert_eq!(printed(&["list"], b""), b"unfit\n");
+    for edition in Edition::ALL {
+        let mut longer = edition.blank_sheet(256, 4);
+        longer.push(0);
+        assert_eq!(printed(&["list"], &longer), b"unfit\n");
+        longer.resize(1 << 20, 0);
+        assert_eq!(printed(&["list"], &longer), b"unfit\n");
+        assert_eq!(printed(&["list"], b""), b"unfit\n");
+    }
 }
 
 #[test]

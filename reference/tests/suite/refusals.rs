@@ -1,13 +1,13 @@
 //! Each refusal from both sides, and their order (document 01, the table).
 
+use crate::edition::Edition;
 use crate::random::Random;
 use crate::support::*;
 
-/// Lengths and numbers about every edge, and far ones.
+/// Lengths about every edge.
 const LENGTHS: [usize; 19] = [
     0, 1, 7, 8, 9, 11, 12, 13, 15, 16, 17, 18, 24, 32, 191, 192, 193, 200, 256,
 ];
-const FAR: [usize; 5] = [65536, 65540, 1 << 32, usize::MAX - 1, usize::MAX];
 
 fn is_key_length(length: usize) -> bool {
     [8, 12, 16].contains(&length)
@@ -78,55 +78,22 @@ fn cmac_tests_1_and_3() {
 }
 
 #[test]
-fn blanking_tests_1_and_3() {
-    let fitting = |n: usize| 8 + 208 * n;
-    let lengths = [
-        0,
-        7,
-        8,
-        9,
-        215,
-        216,
-        217,
-        424,
-        53255,
-        53256,
-        53257,
-        fitting(257),
-    ];
-    for t in (0..20).chain(FAR).chain([260, 262, 264]) {
-        for n in [0, 1, 2, 3, 255, 256, 257, 258].into_iter().chain(FAR) {
-            for length in lengths {
-                let number = if ![4, 6, 8].contains(&t) {
-                    1
-                } else if n == 0 || n > 256 || length != fitting(n) {
-                    3
-                } else {
-                    0
-                };
-                let mut sheet = vec![7; length];
-                assert_eq!(reference::blank(&mut sheet, n, t), refused(number));
-                assert_eq!(sheet == vec![7; length], number != 0);
-            }
-        }
-    }
-}
-
-#[test]
 fn a_clear_tests_4_and_6() {
-    for set in subsets(&[4, 6]) {
-        let mut sheet = blank_sheet(2, 4);
-        if set.contains(&4) {
-            sheet[3] = 2;
-        }
-        for slot in if set.contains(&6) {
-            [2, usize::MAX]
-        } else {
-            [0, 1]
-        } {
-            let before = sheet.clone();
-            assert_eq!(reference::clear(&mut sheet, slot), refused(first(&set)));
-            assert_eq!(sheet, before);
+    for edition in Edition::ALL {
+        for set in subsets(&[4, 6]) {
+            let mut sheet = edition.blank_sheet(2, 4);
+            if set.contains(&4) {
+                sheet[3] = UNKNOWN_EDITION;
+            }
+            for slot in if set.contains(&6) {
+                [2, usize::MAX]
+            } else {
+                [0, 1]
+            } {
+                let before = sheet.clone();
+                assert_eq!(reference::clear(&mut sheet, slot), refused(first(&set)));
+                assert_eq!(sheet, before);
+            }
         }
     }
 }
@@ -134,11 +101,14 @@ fn a_clear_tests_4_and_6() {
 #[test]
 fn a_clear_of_any_short_or_random_sheet_changes_nothing() {
     let mut random = Random::new(70);
-    for length in (0..300).chain([424, 425]) {
-        let mut sheet = random.bytes(length);
-        let before = sheet.clone();
-        assert_eq!(reference::clear(&mut sheet, 0), refused(4));
-        assert_eq!(sheet, before);
+    for edition in Edition::ALL {
+        let two = edition.sheet_length(2);
+        for length in (0..300).chain([two, two + 1]) {
+            let mut sheet = random.bytes(length);
+            let before = sheet.clone();
+            assert_eq!(reference::clear(&mut sheet, 0), refused(4));
+            assert_eq!(sheet, before);
+        }
     }
 }
 
@@ -154,10 +124,10 @@ struct Call {
 
 /// A call to which each refusal of the set applies, whatever else does:
 /// `way` chooses among ways of provoking one.
-fn call_for(set: &[u8], t: usize, way: usize, random: &mut Random) -> Call {
+fn call_for(set: &[u8], (edition, t): (Edition, usize), way: usize, random: &mut Random) -> Call {
     let provoke = |number| set.contains(&number);
-    let mut keys = pair(random, t);
-    let mut sheet = blank_sheet(3, t);
+    let mut keys = pair(random, edition, t);
+    let mut sheet = edition.blank_sheet(3, t);
     let slot = 1;
     let caption = random.bytes(40);
     if !provoke(9) {
@@ -168,19 +138,21 @@ fn call_for(set: &[u8], t: usize, way: usize, random: &mut Random) -> Call {
     }
     if provoke(10) {
         // The check or the field of slot 1.
-        sheet[[32, 39, 56 + 192, 56 + 383][way % 4]] ^= 0x40;
+        let (mark, field) = (edition.mark_place(slot), edition.field_place(3, slot));
+        let places = [mark.start + 8, mark.end - 1, field.start, field.end - 1];
+        sheet[places[way % 4]] ^= 0x40;
     }
     if provoke(5) {
         let class = [4, 6, 8][(t / 2 - 1 + way % 2) % 3];
         assert_ne!(class, t);
-        keys = pair(random, class);
+        keys = unlike(random, class);
     }
     if provoke(4) {
         match way % 6 {
-            0 => sheet[3] = 2,
+            0 => sheet[3] = UNKNOWN_EDITION,
             1 => sheet.truncate(7),
-            2 => sheet[8 + 12] = 1,
-            3 => sheet[56] = 1,
+            2 => sheet[edition.mark_place(0).start + 12] = 1,
+            3 => sheet[edition.field_place(3, 0).start] = 1,
             4 => sheet.push(0),
             _ => sheet.clear(),
         }
@@ -222,10 +194,10 @@ fn call_for(set: &[u8], t: usize, way: usize, random: &mut Random) -> Call {
 #[test]
 fn a_write_gives_the_first_refusal_of_every_set() {
     let mut random = Random::new(71);
-    for t in CLASSES {
+    for (edition, t) in kinds() {
         for set in subsets(&[1, 2, 4, 5, 6, 7, 8]) {
             for way in 0..6 {
-                let mut call = call_for(&set, t, way, &mut random);
+                let mut call = call_for(&set, (edition, t), way, &mut random);
                 let before = call.sheet.clone();
                 let answer = reference::write(
                     &call.sealing,
@@ -251,10 +223,10 @@ fn a_read_gives_the_first_refusal_of_every_set_and_zeroes_its_window() {
         sets.push([set.clone(), vec![9]].concat());
         sets.push([set, vec![10]].concat());
     }
-    for t in CLASSES {
+    for (edition, t) in kinds() {
         for set in &sets {
             for way in 0..6 {
-                let mut call = call_for(set, t, way, &mut random);
+                let mut call = call_for(set, (edition, t), way, &mut random);
                 let answer = reference::read(
                     &call.sealing,
                     &call.checking,
@@ -276,33 +248,37 @@ fn a_read_gives_the_first_refusal_of_every_set_and_zeroes_its_window() {
 
 #[test]
 fn one_wrong_key_or_two_lengths_that_differ_give_1() {
-    for sealing in LENGTHS {
-        for checking in LENGTHS {
-            let fine = is_key_length(sealing) && sealing == checking;
-            let t = sealing / 2;
-            let mut sheet = blank_sheet(1, if fine { t } else { 4 });
-            let keys = (vec![1; sealing], vec![2; checking]);
-            let number = if fine { 0 } else { 1 };
-            assert_eq!(write(&keys, &mut sheet, 0, b""), refused(number));
-            assert_eq!(read(&keys, &sheet, 0), (refused(number), [0; 192]));
+    for edition in Edition::ALL {
+        for sealing in LENGTHS {
+            for checking in LENGTHS {
+                let fine = is_key_length(sealing) && sealing == checking;
+                let t = sealing / 2;
+                let mut sheet = edition.blank_sheet(1, if fine { t } else { 4 });
+                let keys = (vec![1; sealing], vec![2; checking]);
+                let number = if fine { 0 } else { 1 };
+                assert_eq!(write(&keys, &mut sheet, 0, b""), refused(number));
+                assert_eq!(read(&keys, &sheet, 0), (refused(number), [0; 192]));
+            }
         }
     }
 }
 
 #[test]
 fn empty_keys_are_wrong_before_they_are_twins() {
-    let mut sheet = blank_sheet(1, 4);
-    let keys = (Vec::new(), Vec::new());
-    assert_eq!(write(&keys, &mut sheet, 0, b""), refused(1));
-    assert_eq!(read(&keys, &sheet, 0), (refused(1), [0; 192]));
+    for edition in Edition::ALL {
+        let mut sheet = edition.blank_sheet(1, 4);
+        let keys = (Vec::new(), Vec::new());
+        assert_eq!(write(&keys, &mut sheet, 0, b""), refused(1));
+        assert_eq!(read(&keys, &sheet, 0), (refused(1), [0; 192]));
+    }
 }
 
 #[test]
 fn keys_that_differ_in_one_bit_are_not_twins() {
     let mut random = Random::new(73);
-    for t in CLASSES {
+    for (edition, t) in kinds() {
         let sealing = random.bytes(2 * t);
-        let mut sheet = blank_sheet(1, t);
+        let mut sheet = edition.blank_sheet(1, t);
         let twins = (sealing.clone(), sealing.clone());
         assert_eq!(write(&twins, &mut sheet, 0, b"x"), refused(2));
         assert_eq!(read(&twins, &sheet, 0), (refused(2), [0; 192]));
@@ -318,18 +294,20 @@ fn keys_that_differ_in_one_bit_are_not_twins() {
 #[test]
 fn any_window_but_192_gives_3_and_becomes_zero() {
     let mut random = Random::new(74);
-    let keys = pair(&mut random, 4);
-    let mut sheet = blank_sheet(1, 4);
-    write(&keys, &mut sheet, 0, b"caption");
-    for length in 0..400 {
-        let mut window = vec![0xee; length];
-        let answer = reference::read(&keys.0, &keys.1, &sheet, 0, &mut window);
-        if length == 192 {
-            assert_eq!(answer, accepted(7));
-            assert_eq!(window, shown(b"caption"));
-        } else {
-            assert_eq!(answer, refused(3));
-            assert_eq!(window, vec![0; length]);
+    for edition in Edition::ALL {
+        let keys = pair(&mut random, edition, 4);
+        let mut sheet = edition.blank_sheet(1, 4);
+        write(&keys, &mut sheet, 0, b"caption");
+        for length in 0..400 {
+            let mut window = vec![0xee; length];
+            let answer = reference::read(&keys.0, &keys.1, &sheet, 0, &mut window);
+            if length == 192 {
+                assert_eq!(answer, accepted(7));
+                assert_eq!(window, shown(b"caption"));
+            } else {
+                assert_eq!(answer, refused(3));
+                assert_eq!(window, vec![0; length]);
+            }
         }
     }
 }
@@ -337,10 +315,14 @@ fn any_window_but_192_gives_3_and_becomes_zero() {
 #[test]
 fn keys_of_each_class_on_sheets_of_each_class() {
     let mut random = Random::new(75);
-    for t in CLASSES {
+    for (edition, t) in kinds() {
         for class in CLASSES {
-            let keys = pair(&mut random, class);
-            let mut sheet = blank_sheet(1, t);
+            let keys = if class == t {
+                pair(&mut random, edition, t)
+            } else {
+                unlike(&mut random, class)
+            };
+            let mut sheet = edition.blank_sheet(1, t);
             let number = if class == t { 0 } else { 5 };
             assert_eq!(write(&keys, &mut sheet, 0, b""), refused(number));
             assert_eq!(read(&keys, &sheet, 0).0, refused(number));

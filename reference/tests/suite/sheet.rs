@@ -1,5 +1,6 @@
 //! What the calls store and show (document 01, "The sheet").
 
+use crate::edition::Edition;
 use crate::random::Random;
 use crate::support::*;
 use reference::modes::cbc_encrypt;
@@ -28,6 +29,7 @@ fn check(key: &[u8], number: u32, slot: usize, length: u16, field: &[u8]) -> [u8
 
 /// Puts a slot together by hand: 192 plain bytes, sealed, with a true check.
 fn put(
+    edition: Edition,
     keys: &(Vec<u8>, Vec<u8>),
     sheet: &mut [u8],
     number: u32,
@@ -35,26 +37,31 @@ fn put(
     length: u16,
     plain: [u8; 192],
 ) {
-    let n = (sheet.len() - 8) / 208;
+    let n = usize::from(u16::from_be_bytes([sheet[0], sheet[1]]));
     let field = cbc_encrypt(
         &|block| encrypt(&keys.0, block),
         start(&keys.0, number, slot),
         &blocks(&plain),
     )
     .concat();
-    let mark = 8 + 16 * slot;
-    sheet[mark..mark + 4].copy_from_slice(&number.to_be_bytes());
-    sheet[mark + 4..mark + 6].copy_from_slice(&length.to_be_bytes());
-    sheet[mark + 6..mark + 8].copy_from_slice(&[0, 0]);
+    let mark = &mut sheet[edition.mark_place(slot)];
+    mark[0..4].copy_from_slice(&number.to_be_bytes());
+    mark[4..6].copy_from_slice(&length.to_be_bytes());
+    mark[6..8].copy_from_slice(&[0, 0]);
     let mac = check(&keys.1, number, slot, length, &field);
-    sheet[mark + 8..mark + 16].copy_from_slice(&mac);
-    let place = 8 + 16 * n + 192 * slot;
-    sheet[place..place + 192].copy_from_slice(&field);
+    mark[8..16].copy_from_slice(&mac);
+    sheet[edition.field_place(n, slot)].copy_from_slice(&field);
 }
 
 /// A sheet with a caption in every slot.
-fn full_sheet(random: &mut Random, keys: &(Vec<u8>, Vec<u8>), n: usize, t: usize) -> Vec<u8> {
-    let mut sheet = blank_sheet(n, t);
+fn full_sheet(
+    random: &mut Random,
+    edition: Edition,
+    keys: &(Vec<u8>, Vec<u8>),
+    n: usize,
+    t: usize,
+) -> Vec<u8> {
+    let mut sheet = edition.blank_sheet(n, t);
     for slot in 0..n {
         let length = random.below(193);
         let caption = random.bytes(length);
@@ -64,25 +71,13 @@ fn full_sheet(random: &mut Random, keys: &(Vec<u8>, Vec<u8>), n: usize, t: usize
 }
 
 #[test]
-fn blanking_stores_n_t_edition_1_and_zeros() {
-    for t in CLASSES {
-        for n in [1usize, 2, 3, 255, 256] {
-            let sheet = blank_sheet(n, t);
-            let header = [(n / 256) as u8, (n % 256) as u8, t as u8, 1, 0, 0, 0, 0];
-            assert_eq!(sheet[..8], header);
-            assert_eq!(sheet[8..], vec![0; 208 * n]);
-        }
-    }
-}
-
-#[test]
 fn a_write_stores_header_mark_and_field_and_nothing_else() {
     let mut random = Random::new(50);
-    for t in CLASSES {
+    for (edition, t) in kinds() {
         for length in [0, 1, 7, 8, 9, 100, 191, 192] {
-            let keys = pair(&mut random, t);
+            let keys = pair(&mut random, edition, t);
             let slot = random.below(3);
-            let mut sheet = full_sheet(&mut random, &keys, 3, t);
+            let mut sheet = full_sheet(&mut random, edition, &keys, 3, t);
             let w = random.next() as u32 >> 1 | 0x10;
             set_w(&mut sheet, w);
             let mut expected = sheet.clone();
@@ -92,7 +87,15 @@ fn a_write_stores_header_mark_and_field_and_nothing_else() {
 
             set_w(&mut expected, w + 1);
             let plain = shown(&caption);
-            put(&keys, &mut expected, w + 1, slot, length as u16, plain);
+            put(
+                edition,
+                &keys,
+                &mut expected,
+                w + 1,
+                slot,
+                length as u16,
+                plain,
+            );
             assert_eq!(sheet, expected);
         }
     }
@@ -101,23 +104,25 @@ fn a_write_stores_header_mark_and_field_and_nothing_else() {
 #[test]
 fn a_write_into_slot_255_of_256_has_its_slot_in_start_block_and_check() {
     let mut random = Random::new(51);
-    let keys = pair(&mut random, 8);
-    let mut sheet = blank_sheet(256, 8);
-    let mut expected = sheet.clone();
-    assert_eq!(write(&keys, &mut sheet, 255, b"far"), accepted(0));
-    set_w(&mut expected, 1);
-    put(&keys, &mut expected, 1, 255, 3, shown(b"far"));
-    assert_eq!(sheet, expected);
+    for edition in Edition::ALL {
+        let keys = pair(&mut random, edition, 8);
+        let mut sheet = edition.blank_sheet(256, 8);
+        let mut expected = sheet.clone();
+        assert_eq!(write(&keys, &mut sheet, 255, b"far"), accepted(0));
+        set_w(&mut expected, 1);
+        put(edition, &keys, &mut expected, 1, 255, 3, shown(b"far"));
+        assert_eq!(sheet, expected);
+    }
 }
 
 #[test]
 fn every_block_of_the_field_is_sealed_however_short_the_caption() {
     let mut random = Random::new(52);
-    for t in CLASSES {
-        let keys = pair(&mut random, t);
-        let mut sheet = blank_sheet(1, t);
+    for (edition, t) in kinds() {
+        let keys = pair(&mut random, edition, t);
+        let mut sheet = edition.blank_sheet(1, t);
         assert_eq!(write(&keys, &mut sheet, 0, b""), accepted(0));
-        for block in sheet[24..].chunks(8) {
+        for block in sheet[edition.field_place(1, 0)].chunks(8) {
             assert_ne!(block, [0; 8]);
         }
     }
@@ -126,20 +131,22 @@ fn every_block_of_the_field_is_sealed_however_short_the_caption() {
 #[test]
 fn two_writes_of_one_caption_are_stored_unlike() {
     let mut random = Random::new(53);
-    let keys = pair(&mut random, 6);
-    let mut sheet = blank_sheet(2, 6);
-    write(&keys, &mut sheet, 0, b"same");
-    write(&keys, &mut sheet, 1, b"same");
-    let (first, second) = sheet[40..].split_at(192);
-    assert_ne!(first, second);
+    for edition in Edition::ALL {
+        let keys = pair(&mut random, edition, 6);
+        let mut sheet = edition.blank_sheet(2, 6);
+        write(&keys, &mut sheet, 0, b"same");
+        write(&keys, &mut sheet, 1, b"same");
+        let [first, second] = [0, 1].map(|slot| &sheet[edition.field_place(2, slot)]);
+        assert_ne!(first, second);
+    }
 }
 
 #[test]
 fn every_length_is_read_back() {
     let mut random = Random::new(54);
-    for t in CLASSES {
-        let keys = pair(&mut random, t);
-        let mut sheet = blank_sheet(1, t);
+    for (edition, t) in kinds() {
+        let keys = pair(&mut random, edition, t);
+        let mut sheet = edition.blank_sheet(1, t);
         for length in 0..=192 {
             let caption = random.bytes(length);
             assert_eq!(write(&keys, &mut sheet, 0, &caption), accepted(0));
@@ -155,24 +162,26 @@ fn every_length_is_read_back() {
 #[test]
 fn a_caption_of_zero_bytes_keeps_its_length() {
     let mut random = Random::new(55);
-    let keys = pair(&mut random, 4);
-    let mut sheet = blank_sheet(1, 4);
-    for length in [0, 1, 8, 192] {
-        assert_eq!(write(&keys, &mut sheet, 0, &vec![0; length]), accepted(0));
-        assert_eq!(read(&keys, &sheet, 0), (accepted(length as u16), [0; 192]));
+    for edition in Edition::ALL {
+        let keys = pair(&mut random, edition, 4);
+        let mut sheet = edition.blank_sheet(1, 4);
+        for length in [0, 1, 8, 192] {
+            assert_eq!(write(&keys, &mut sheet, 0, &vec![0; length]), accepted(0));
+            assert_eq!(read(&keys, &sheet, 0), (accepted(length as u16), [0; 192]));
+        }
     }
 }
 
 #[test]
 fn a_clear_makes_208_bytes_zero_keeps_w_and_touches_nothing_else() {
     let mut random = Random::new(56);
-    for t in CLASSES {
-        let keys = pair(&mut random, t);
+    for (edition, t) in kinds() {
+        let keys = pair(&mut random, edition, t);
         for slot in 0..3 {
-            let mut sheet = full_sheet(&mut random, &keys, 3, t);
+            let mut sheet = full_sheet(&mut random, edition, &keys, 3, t);
             let mut expected = sheet.clone();
-            expected[8 + 16 * slot..8 + 16 * (slot + 1)].fill(0);
-            expected[56 + 192 * slot..56 + 192 * (slot + 1)].fill(0);
+            expected[edition.mark_place(slot)].fill(0);
+            expected[edition.field_place(3, slot)].fill(0);
             assert_eq!(reference::clear(&mut sheet, slot), accepted(0));
             assert_eq!(sheet, expected);
             assert_eq!(w_of(&sheet), 3);
@@ -187,25 +196,27 @@ fn a_clear_makes_208_bytes_zero_keeps_w_and_touches_nothing_else() {
 #[test]
 fn a_write_and_a_clear_test_nothing_of_the_former_content_beyond_the_layout() {
     let mut random = Random::new(57);
-    let keys = pair(&mut random, 4);
-    let mut sheet = full_sheet(&mut random, &keys, 2, 4);
-    sheet[40] ^= 1;
-    sheet[40 + 192] ^= 1;
-    assert_eq!(read(&keys, &sheet, 0), (refused(10), [0; 192]));
-    assert_eq!(read(&keys, &sheet, 1), (refused(10), [0; 192]));
-    assert_eq!(write(&keys, &mut sheet, 0, b"new"), accepted(0));
-    assert_eq!(reference::clear(&mut sheet, 1), accepted(0));
-    assert_eq!(read(&keys, &sheet, 0), (accepted(3), shown(b"new")));
-    assert_eq!(read(&keys, &sheet, 1), (refused(9), [0; 192]));
+    for edition in Edition::ALL {
+        let keys = pair(&mut random, edition, 4);
+        let mut sheet = full_sheet(&mut random, edition, &keys, 2, 4);
+        sheet[edition.field_place(2, 0).start] ^= 1;
+        sheet[edition.field_place(2, 1).start] ^= 1;
+        assert_eq!(read(&keys, &sheet, 0), (refused(10), [0; 192]));
+        assert_eq!(read(&keys, &sheet, 1), (refused(10), [0; 192]));
+        assert_eq!(write(&keys, &mut sheet, 0, b"new"), accepted(0));
+        assert_eq!(reference::clear(&mut sheet, 1), accepted(0));
+        assert_eq!(read(&keys, &sheet, 0), (accepted(3), shown(b"new")));
+        assert_eq!(read(&keys, &sheet, 1), (refused(9), [0; 192]));
+    }
 }
 
 #[test]
 fn a_slot_altered_in_any_byte_is_not_read() {
     let mut random = Random::new(58);
-    for t in CLASSES {
-        let keys = pair(&mut random, t);
-        let sheet = full_sheet(&mut random, &keys, 2, t);
-        for place in (24..40).chain(40 + 192..40 + 384) {
+    for (edition, t) in kinds() {
+        let keys = pair(&mut random, edition, t);
+        let sheet = full_sheet(&mut random, edition, &keys, 2, t);
+        for place in edition.mark_place(1).chain(edition.field_place(2, 1)) {
             let mut altered = sheet.clone();
             altered[place] ^= 1 << random.below(8);
             let number = if reference::fit(&altered) { 10 } else { 4 };
@@ -220,27 +231,29 @@ fn a_slot_altered_in_any_byte_is_not_read() {
 #[test]
 fn a_slot_moved_to_another_place_is_altered() {
     let mut random = Random::new(59);
-    let keys = pair(&mut random, 6);
-    let mut sheet = full_sheet(&mut random, &keys, 2, 6);
-    sheet.copy_within(8..24, 24);
-    sheet.copy_within(40..40 + 192, 40 + 192);
-    assert_eq!(read(&keys, &sheet, 0).0.number, 0);
-    assert_eq!(read(&keys, &sheet, 1), (refused(10), [0; 192]));
+    for edition in Edition::ALL {
+        let keys = pair(&mut random, edition, 6);
+        let mut sheet = full_sheet(&mut random, edition, &keys, 2, 6);
+        sheet.copy_within(edition.mark_place(0), edition.mark_place(1).start);
+        sheet.copy_within(edition.field_place(2, 0), edition.field_place(2, 1).start);
+        assert_eq!(read(&keys, &sheet, 0).0.number, 0);
+        assert_eq!(read(&keys, &sheet, 1), (refused(10), [0; 192]));
+    }
 }
 
 #[test]
 fn an_opened_byte_at_or_past_the_length_must_be_zero() {
     let mut random = Random::new(60);
-    for t in CLASSES {
-        let keys = pair(&mut random, t);
+    for (edition, t) in kinds() {
+        let keys = pair(&mut random, edition, t);
         for length in [0, 1, 8, 100, 191, 192] {
             let caption = random.bytes(length);
-            let mut sheet = blank_sheet(2, t);
+            let mut sheet = edition.blank_sheet(2, t);
             set_w(&mut sheet, 77);
             for place in [0, 1, 7, 8, 9, 99, 100, 101, 190, 191] {
                 let mut plain = shown(&caption);
                 plain[place] = 0x80;
-                put(&keys, &mut sheet, 42, 1, length as u16, plain);
+                put(edition, &keys, &mut sheet, 42, 1, length as u16, plain);
                 let expected = if place < length {
                     (accepted(length as u16), plain)
                 } else {
@@ -255,14 +268,14 @@ fn an_opened_byte_at_or_past_the_length_must_be_zero() {
 #[test]
 fn a_read_with_either_key_wrong_is_altered() {
     let mut random = Random::new(61);
-    for t in CLASSES {
-        let keys = pair(&mut random, t);
-        let sheet = full_sheet(&mut random, &keys, 1, t);
+    for (edition, t) in kinds() {
+        let keys = pair(&mut random, edition, t);
+        let sheet = full_sheet(&mut random, edition, &keys, 1, t);
         let mut other_checking = keys.clone();
         other_checking.1[0] ^= 1;
         assert_eq!(read(&other_checking, &sheet, 0), (refused(10), [0; 192]));
         // A wrong sealing key is met by the zero bytes, if the caption leaves any.
-        let mut short = blank_sheet(1, t);
+        let mut short = edition.blank_sheet(1, t);
         write(&keys, &mut short, 0, b"short");
         let mut other_sealing = keys.clone();
         other_sealing.0[0] ^= 1;

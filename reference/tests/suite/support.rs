@@ -1,9 +1,20 @@
 //! Short ways of calling the program.
 
+use crate::edition::Edition;
 use crate::random::Random;
 use reference::Answer;
 
 pub const CLASSES: [usize; 3] = [4, 6, 8];
+
+/// Every edition with every class.
+pub fn kinds() -> impl Iterator<Item = (Edition, usize)> {
+    Edition::ALL
+        .into_iter()
+        .flat_map(|edition| CLASSES.map(|t| (edition, t)))
+}
+
+/// A value of byte 3 that is no edition's.
+pub const UNKNOWN_EDITION: u8 = Edition::BLANKED.number() + 1;
 
 /// Bytes of hex digits; blanks don't count.
 pub fn hex(digits: &str) -> Vec<u8> {
@@ -49,8 +60,15 @@ pub fn cmac(key: &[u8], message: &[u8]) -> [u8; 8] {
     out
 }
 
+/// Keys that serve a blank sheet of an edition and a class.
+pub fn pair(random: &mut Random, edition: Edition, t: usize) -> (Vec<u8>, Vec<u8>) {
+    match edition {
+        Edition::One => unlike(random, t),
+    }
+}
+
 /// Two unlike keys of a class.
-pub fn pair(random: &mut Random, t: usize) -> (Vec<u8>, Vec<u8>) {
+pub fn unlike(random: &mut Random, t: usize) -> (Vec<u8>, Vec<u8>) {
     let sealing = random.bytes(2 * t);
     let mut checking = random.bytes(2 * t);
     if checking == sealing {
@@ -59,11 +77,10 @@ pub fn pair(random: &mut Random, t: usize) -> (Vec<u8>, Vec<u8>) {
     (sealing, checking)
 }
 
-/// A blank sheet.
-pub fn blank_sheet(n: usize, t: usize) -> Vec<u8> {
-    let mut sheet = vec![0xa5; 8 + 208 * n];
-    assert_eq!(reference::blank(&mut sheet, n, t), accepted(0));
-    sheet
+/// Blanking. Only the tests of blanking itself call it; all others lay out a
+/// blank sheet.
+pub fn blank(sheet: &mut [u8], n: usize, t: usize) -> Answer {
+    reference::blank(sheet, n, t)
 }
 
 pub fn set_w(sheet: &mut [u8], w: u32) {

@@ -1,5 +1,6 @@
 //! The printed vectors: their form, and that they agree with the library.
 
+use crate::edition::Edition;
 use crate::support::*;
 use reference::cipher::phi_of_key;
 use reference::vectors;
@@ -70,12 +71,15 @@ fn cbc() {
     }
 }
 
+/// Lines of `vectors sheet` for one t: calls, reads, listing.
+const SHEET_LINES: usize = 10 + 6 + 4;
+
 #[test]
 fn sheet() {
     let text = vectors::sheet();
     let lines = lines(&text);
-    assert_eq!(lines.len(), 3 * (8 + 4 + 4));
-    for (place, lines) in lines.chunks(16).enumerate() {
+    assert_eq!(lines.len(), 3 * SHEET_LINES);
+    for (place, lines) in lines.chunks(SHEET_LINES).enumerate() {
         let starts = [
             ["blank", "0", "0"],
             ["write", "0", "0"],
@@ -85,25 +89,80 @@ fn sheet() {
             ["clear", "0", "0"],
             ["write", "6", "0"],
             ["write", "7", "0"],
+            ["write", "2", "0"],
+            ["write", "0", "0"],
         ];
-        for (line, start) in lines.iter().zip(starts) {
+        let calls = lines[..6].iter().chain(&lines[7..11]);
+        for (line, start) in calls.zip(starts) {
             assert_eq!(line[..3], start);
             assert_eq!(line[3].len(), 16);
         }
         let reads = [
             ["read", "0", "9", "0"],
+            ["read", "0", "10", "0"],
             ["read", "1", "0", "3"],
             ["read", "2", "0", "192"],
             ["read", "3", "6", "0"],
+            ["read", "1", "2", "0"],
         ];
-        for (line, start) in lines[8..12].iter().zip(reads) {
+        let read_lines = lines[6..7].iter().chain(&lines[11..16]);
+        for (line, start) in read_lines.zip(reads) {
             assert_eq!(line[..4], start);
             assert_eq!(line[4].len(), 384);
         }
         let bits = (16 * CLASSES[place]).to_string();
-        assert_eq!(lines[12], ["slots", "3", "key", &bits, "last", "4"]);
-        assert_eq!(lines[13], ["0", "blank"]);
-        assert_eq!(lines[14], ["1", "written", "4", "3"]);
-        assert_eq!(lines[15], ["2", "written", "3", "192"]);
+        assert_eq!(lines[16], ["slots", "3", "key", &bits, "last", "5"]);
+        assert_eq!(lines[17], ["0", "written", "5", "3"]);
+        assert_eq!(lines[18], ["1", "written", "4", "3"]);
+        assert_eq!(lines[19], ["2", "written", "3", "192"]);
+    }
+}
+
+/// The key of `vectors sheet` with number s.
+fn sheet_key(t: usize, s: usize) -> Vec<u8> {
+    let byte = |i| (29 * i + 71 * s + 13) % 256;
+    (0..2 * t).map(|i| byte(i) as u8).collect()
+}
+
+/// The sheet of `vectors sheet` after its clear.
+fn cleared_sheet(keys: &(Vec<u8>, Vec<u8>), t: usize) -> Vec<u8> {
+    let seventeen: Vec<u8> = (0..17).map(|i| ((53 * i + 7) % 256) as u8).collect();
+    let longest: Vec<u8> = (0..192).map(|i| ((31 * i + 5) % 256) as u8).collect();
+    let mut sheet = Edition::BLANKED.blank_sheet(3, t);
+    let writes: [(usize, &[u8]); 4] = [(0, b""), (1, &seventeen), (2, &longest), (1, b"abc")];
+    for (slot, caption) in writes {
+        assert_eq!(write(keys, &mut sheet, slot, caption), accepted(0));
+    }
+    assert_eq!(reference::clear(&mut sheet, 0), accepted(0));
+    sheet
+}
+
+#[test]
+fn sheet_with_twin_keys_and_near_twins() {
+    let text = vectors::sheet();
+    let lines = lines(&text);
+    for (lines, t) in lines.chunks(SHEET_LINES).zip(CLASSES) {
+        let keys = (sheet_key(t, t), sheet_key(t, t + 1));
+        let mut sheet = cleared_sheet(&keys, t);
+        let before = sheet.clone();
+        let printed_mac = |line: usize| hex_block(lines[line][3]);
+        assert_eq!(printed_mac(8), cmac(&keys.1, &before));
+
+        let twins = (keys.0.clone(), keys.0.clone());
+        assert_eq!(write(&twins, &mut sheet, 0, b"abc"), refused(2));
+        assert_eq!(sheet, before);
+        assert_eq!(printed_mac(9), printed_mac(8));
+
+        let mut near_twins = twins.clone();
+        near_twins.1[0] ^= 1;
+        assert_eq!(write(&near_twins, &mut sheet, 0, b"abc"), accepted(0));
+        assert_ne!(sheet, before);
+        assert_eq!(printed_mac(10), cmac(&keys.1, &sheet));
+
+        assert_eq!(read(&near_twins, &sheet, 0), (accepted(3), shown(b"abc")));
+        assert_eq!(read(&keys, &sheet, 0), (refused(10), [0; 192]));
+        assert_eq!(read(&twins, &sheet, 1), (refused(2), [0; 192]));
+        assert_eq!(hex(lines[11][4]), [0; 192]);
+        assert_eq!(hex(lines[15][4]), [0; 192]);
     }
 }

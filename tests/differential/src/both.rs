@@ -1,6 +1,7 @@
 //! Every call made on both programs: the library, over lent memory, is held
 //! to the second program's number, length and bytes.
 
+use crate::edition::Edition;
 use crate::lent::{Lent, Place};
 use crate::library;
 use crate::sheets::Keys;
@@ -99,6 +100,16 @@ impl Both {
         self.hold_answer(call, ours, theirs);
         self.hold_bytes(call, "sheet", &lent_sheet, sheet);
         ours
+    }
+
+    /// A blank sheet of an edition: blanked by both programs in place of what
+    /// `sheet` holds if that is the edition they make, else laid out.
+    pub fn begin(&mut self, edition: Edition, sheet: &mut [u8], slots: usize, key_words: usize) {
+        if edition == Edition::BLANKED {
+            self.blank(sheet, slots, key_words);
+        } else {
+            sheet.copy_from_slice(&edition.blank_sheet(slots, key_words));
+        }
     }
 
     /// A write; `sheet` becomes what both programs leave.

@@ -5,6 +5,9 @@ pub mod both;
 /// DES-EDE3, another 64-bit block cipher, from the second program's tests.
 #[path = "../../../reference/tests/suite/des.rs"]
 pub mod des;
+/// The editions, from the second program's tests.
+#[path = "../../../reference/tests/suite/edition.rs"]
+pub mod edition;
 pub mod lent;
 pub mod library;
 pub mod openssl;

@@ -1,10 +1,20 @@
 //! Keys and sheets to call with: fit ones, and ones with a rule broken.
 
+use crate::edition::Edition;
 use crate::random::Random;
-use std::ops::Range;
 
 /// The values of t, the words of a key.
 pub const CLASSES: [usize; 3] = [4, 6, 8];
+
+/// Every edition with every class.
+pub fn kinds() -> impl Iterator<Item = (Edition, usize)> {
+    Edition::ALL
+        .into_iter()
+        .flat_map(|edition| CLASSES.map(|t| (edition, t)))
+}
+
+/// A value of byte 3 that is no edition's; the next is none's either.
+pub const UNKNOWN_EDITION: u8 = Edition::BLANKED.number() + 1;
 
 /// A window's length, and the longest caption's.
 pub const FIELD: usize = 192;
@@ -17,6 +27,13 @@ pub struct Keys {
 }
 
 impl Keys {
+    /// Keys that serve a blank sheet of an edition and a class.
+    pub fn own(random: &mut Random, edition: Edition, t: usize) -> Keys {
+        match edition {
+            Edition::One => Keys::unlike(random, t),
+        }
+    }
+
     /// Two unlike keys of t words.
     pub fn unlike(random: &mut Random, t: usize) -> Keys {
         let sealing = random.bytes(2 * t);
@@ -51,32 +68,6 @@ impl Keys {
     }
 }
 
-/// The length of a sheet of n slots.
-pub fn sheet_length(n: usize) -> usize {
-    8 + 208 * n
-}
-
-/// Where the mark of a slot stands.
-pub fn mark_place(slot: usize) -> Range<usize> {
-    let start = 8 + 16 * slot;
-    start..start + 16
-}
-
-/// Where the sealed field of a slot stands.
-pub fn field_place(n: usize, slot: usize) -> Range<usize> {
-    let start = 8 + 16 * n + 192 * slot;
-    start..start + 192
-}
-
-/// A blank sheet, laid out here and by no program that is tested.
-pub fn blank_sheet(n: usize, t: usize) -> Vec<u8> {
-    let mut sheet = vec![0; sheet_length(n)];
-    sheet[0..2].copy_from_slice(&(n as u16).to_be_bytes());
-    sheet[2] = t as u8;
-    sheet[3] = 1;
-    sheet
-}
-
 /// The last write number, w.
 pub fn last_number(sheet: &[u8]) -> u32 {
     u32::from_be_bytes([sheet[4], sheet[5], sheet[6], sheet[7]])
@@ -103,8 +94,8 @@ pub fn caption_length(random: &mut Random) -> usize {
 
 /// A sheet that meets the layout, each slot blank or written; fields and
 /// checks are random bytes, which the layout doesn't look at.
-pub fn fit_sheet(random: &mut Random, n: usize, t: usize) -> Vec<u8> {
-    let mut sheet = blank_sheet(n, t);
+pub fn fit_sheet(random: &mut Random, edition: Edition, n: usize, t: usize) -> Vec<u8> {
+    let mut sheet = edition.blank_sheet(n, t);
     let w = match random.below(8) {
         0 => 0,
         1 => u32::MAX,
@@ -118,14 +109,14 @@ pub fn fit_sheet(random: &mut Random, n: usize, t: usize) -> Vec<u8> {
         }
         let number = number_up_to(random, w);
         let length = caption_length(random) as u16;
-        let mark = &mut sheet[mark_place(slot)];
+        let mark = &mut sheet[edition.mark_place(slot)];
         mark[0..4].copy_from_slice(&number.to_be_bytes());
         mark[4..6].copy_from_slice(&length.to_be_bytes());
         // A check and a field of zeros are allowed in a written slot.
         if !random.once_in(5) {
             mark[8..16].copy_from_slice(&random.block());
             let field = random.bytes(FIELD);
-            sheet[field_place(n, slot)].copy_from_slice(&field);
+            sheet[edition.field_place(n, slot)].copy_from_slice(&field);
         }
     }
     sheet
@@ -136,20 +127,26 @@ pub const FAULTS: usize = 13;
 
 /// A fit sheet with one thing altered: most often unfit then, by the rule of
 /// that number, and sometimes still fit.
-pub fn near_sheet(random: &mut Random, n: usize, t: usize, fault: usize) -> Vec<u8> {
-    let mut sheet = fit_sheet(random, n, t);
+pub fn near_sheet(
+    random: &mut Random,
+    edition: Edition,
+    n: usize,
+    t: usize,
+    fault: usize,
+) -> Vec<u8> {
+    let mut sheet = fit_sheet(random, edition, n, t);
     // The first and the last slot as often as all others.
     let between = random.below(n);
     let slot = random.pick(&[0, n - 1, between]);
-    let mark = mark_place(slot).start;
-    let field = field_place(n, slot).start;
+    let mark = edition.mark_place(slot).start;
+    let field = edition.field_place(n, slot).start;
     let some_byte = random.below(255) as u8 + 1;
     match fault {
         0 => set_slot_count(&mut sheet, n - 1),
         1 => set_slot_count(&mut sheet, n + 1),
         2 => set_slot_count(&mut sheet, random.number() as usize % 65536),
         3 => sheet[2] = random.pick(&[0, 1, 2, 3, 5, 7, 9, 10, 12, 16, 24, 0x84, 255]),
-        4 => sheet[3] = random.pick(&[0, 2, 3, 0x81, 255]),
+        4 => sheet[3] = random.pick(&[0, UNKNOWN_EDITION, UNKNOWN_EDITION + 1, 0x81, 255]),
         5 => set_last_number(&mut sheet, random.pick(&[0, 1, 2, 0xff, 0x100, 0x10000])),
         6 => sheet[mark + 4..mark + 6]
             .copy_from_slice(&random.pick(&[193u16, 256, 448, 0x8000]).to_be_bytes()),

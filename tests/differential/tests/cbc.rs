@@ -3,7 +3,7 @@
 //! check are put together again from the library's block and CMAC calls.
 
 use differential::random::{seed, Random};
-use differential::sheets::{blank_sheet, field_place, mark_place, Keys, CLASSES, FIELD};
+use differential::sheets::{kinds, Keys, CLASSES, FIELD};
 use differential::{des, library, openssl, report};
 use reference::cipher::{decrypt, encrypt, Block, Register};
 use reference::modes::{cbc_decrypt, cbc_encrypt};
@@ -117,9 +117,9 @@ fn des_ede3_is_openssl_s() {
 fn a_write_stores_the_field_and_the_check_of_the_papers() {
     const WRITES: usize = 2_000;
     let mut random = Random::of_part(303);
-    for t in CLASSES {
-        let mut sheet = blank_sheet(5, t);
-        let keys = Keys::unlike(&mut random, t);
+    for (edition, t) in kinds() {
+        let mut sheet = edition.blank_sheet(5, t);
+        let keys = Keys::own(&mut random, edition, t);
         for number in 1..=WRITES as u32 {
             let slot = random.below(5);
             let length = random.below(FIELD + 1);
@@ -144,12 +144,12 @@ fn a_write_stores_the_field_and_the_check_of_the_papers() {
             let mark = [&[a, b, c, d, g, h, 0, 0], &check[..]].concat();
 
             assert_eq!(sheet[4..8], [a, b, c, d]);
-            assert_eq!(sheet[mark_place(slot)], mark);
-            assert_eq!(sheet[field_place(5, slot)], field);
+            assert_eq!(sheet[edition.mark_place(slot)], mark);
+            assert_eq!(sheet[edition.field_place(5, slot)], field);
         }
     }
     report(&format!(
         "cbc: {} writes put together again from block and CMAC calls",
-        3 * WRITES
+        kinds().count() * WRITES
     ));
 }

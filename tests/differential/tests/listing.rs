@@ -2,10 +2,11 @@
 //! of length 0.
 
 use differential::both::Both;
+use differential::edition::Edition;
 use differential::lent::Place;
 use differential::random::{seed, Random};
 use differential::report;
-use differential::sheets::{blank_sheet, fit_sheet, near_sheet, set_last_number, CLASSES, FAULTS};
+use differential::sheets::{fit_sheet, kinds, near_sheet, set_last_number, FAULTS};
 
 fn both(test: &str) -> Both {
     Both::new(Place::Guarded, &format!("{test}, seed {:#x}", seed()))
@@ -14,10 +15,12 @@ fn both(test: &str) -> Both {
 #[test]
 fn the_example_of_document_01() {
     let mut both = both("the example");
-    let sheet = blank_sheet(2, 4);
     let listing = b"slots 2 key 64 last 0\n0 blank\n1 blank\n";
-    for out in 0..=listing.len() + 3 {
-        both.list_into(&sheet, listing, out);
+    for edition in Edition::ALL {
+        let sheet = edition.blank_sheet(2, 4);
+        for out in 0..=listing.len() + 3 {
+            both.list_into(&sheet, listing, out);
+        }
     }
     let listings = both.listings;
     report(&format!(
@@ -29,10 +32,10 @@ fn the_example_of_document_01() {
 fn fit_sheets() {
     let mut random = Random::of_part(400);
     let mut both = both("fit sheets");
-    for t in CLASSES {
+    for (edition, t) in kinds() {
         for n in (1..=12).chain([99, 100, 101, 255, 256]) {
             for _ in 0..12 {
-                let sheet = fit_sheet(&mut random, n, t);
+                let sheet = fit_sheet(&mut random, edition, n, t);
                 assert!(reference::fit(&sheet));
                 both.list(&sheet);
             }
@@ -50,9 +53,9 @@ fn fit_sheets() {
 fn every_length_of_output() {
     let mut random = Random::of_part(401);
     let mut both = both("every length of output");
-    for t in CLASSES {
+    for (edition, t) in kinds() {
         for n in [1, 3, 11] {
-            let sheet = fit_sheet(&mut random, n, t);
+            let sheet = fit_sheet(&mut random, edition, n, t);
             let listing = reference::listing(&sheet);
             for out in 0..=listing.len() + 40 {
                 both.list_into(&sheet, &listing, out);
@@ -72,12 +75,14 @@ fn every_length_of_output() {
 #[test]
 fn last_numbers_of_every_count_of_digits() {
     let mut both = both("last numbers");
-    let mut sheet = blank_sheet(1, 8);
-    for power in 0..10 {
-        let ten = 10u32.pow(power);
-        for w in [ten - 1, ten, ten + 1, 3 * ten, u32::MAX - ten, u32::MAX] {
-            set_last_number(&mut sheet, w);
-            both.list(&sheet);
+    for edition in Edition::ALL {
+        let mut sheet = edition.blank_sheet(1, 8);
+        for power in 0..10 {
+            let ten = 10u32.pow(power);
+            for w in [ten - 1, ten, ten + 1, 3 * ten, u32::MAX - ten, u32::MAX] {
+                set_last_number(&mut sheet, w);
+                both.list(&sheet);
+            }
         }
     }
     let listings = both.listings;
@@ -91,11 +96,11 @@ fn sheets_with_a_rule_broken() {
     let mut random = Random::of_part(402);
     let mut both = both("sheets with a rule broken");
     let mut unfit = 0;
-    for t in CLASSES {
+    for (edition, t) in kinds() {
         for n in [1, 2, 3, 10, 255, 256] {
             for fault in 0..FAULTS {
                 for _ in 0..4 {
-                    let sheet = near_sheet(&mut random, n, t, fault);
+                    let sheet = near_sheet(&mut random, edition, n, t, fault);
                     unfit += usize::from(!reference::fit(&sheet));
                     both.list(&sheet);
                 }
@@ -119,10 +124,12 @@ fn lengths_around_the_shortest_and_the_longest() {
     for length in (0..=24).chain(210..=220).chain(long) {
         both.list(&vec![0; length]);
         both.list(&random.bytes(length));
-        for n in [1, 256] {
-            let mut sheet = fit_sheet(&mut random, n, 6);
-            sheet.resize(length, 0);
-            both.list(&sheet);
+        for edition in Edition::ALL {
+            for n in [1, 256] {
+                let mut sheet = fit_sheet(&mut random, edition, n, 6);
+                sheet.resize(length, 0);
+                both.list(&sheet);
+            }
         }
     }
     let listings = both.listings;

@@ -9,6 +9,9 @@
 
 #![forbid(unsafe_code)]
 
+/// The editions, from the second program's tests.
+#[path = "../../../reference/tests/suite/edition.rs"]
+mod edition;
 mod sheets;
 
 use sheets::Sheet;

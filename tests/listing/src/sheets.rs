@@ -1,25 +1,25 @@
 //! The sheets: fit ones of every shape, unfit ones by every rule, and files that
 //! are no sheets.
 
+use crate::edition::Edition;
 use std::collections::BTreeMap;
 
-const HEADER: usize = 8;
 const MARK: usize = 16;
 const FIELD: usize = 192;
 const CLASSES: [usize; 3] = [4, 6, 8];
 
 /// A sheet, the group it is counted in, and what it is.
 pub struct Sheet {
-    pub group: &'static str,
+    pub group: String,
     pub what: String,
     pub bytes: Vec<u8>,
 }
 
 /// How many sheets each group has.
-pub fn counts(sheets: &[Sheet]) -> BTreeMap<&'static str, usize> {
+pub fn counts(sheets: &[Sheet]) -> BTreeMap<&str, usize> {
     let mut counts = BTreeMap::new();
     for sheet in sheets {
-        *counts.entry(sheet.group).or_default() += 1;
+        *counts.entry(&sheet.group[..]).or_default() += 1;
     }
     counts
 }
@@ -29,15 +29,19 @@ pub fn all() -> Vec<Sheet> {
     let mut sheets = Sheets {
         all: Vec::new(),
         random: Random(424),
+        edition: Edition::BLANKED,
     };
-    sheets.blank();
-    sheets.written();
-    sheets.digits();
-    sheets.header_faults();
-    sheets.length_faults();
-    sheets.mark_faults();
-    sheets.changed_bytes();
-    sheets.no_sheets();
+    for edition in Edition::ALL {
+        sheets.edition = edition;
+        sheets.blank();
+        sheets.written();
+        sheets.digits();
+        sheets.header_faults();
+        sheets.length_faults();
+        sheets.mark_faults();
+        sheets.changed_bytes();
+        sheets.no_sheets();
+    }
     for sheet in &sheets.all {
         let fit = reference::fit(&sheet.bytes);
         assert!(!sheet.group.starts_with("fit") || fit, "{}", sheet.what);
@@ -49,11 +53,17 @@ pub fn all() -> Vec<Sheet> {
 struct Sheets {
     all: Vec<Sheet>,
     random: Random,
+    /// The edition that is being gone through.
+    edition: Edition,
 }
 
 impl Sheets {
-    fn add(&mut self, group: &'static str, what: String, bytes: Vec<u8>) {
-        self.all.push(Sheet { group, what, bytes });
+    fn add(&mut self, group: &str, what: String, bytes: Vec<u8>) {
+        self.all.push(Sheet {
+            group: group.to_string(),
+            what: format!("edition {:?}, {what}", self.edition),
+            bytes,
+        });
     }
 
     // ---- Fit ----
@@ -62,7 +72,8 @@ impl Sheets {
         for slots in [1, 2, 3, 9, 10, 11, 99, 100, 101, 255, 256] {
             for t in CLASSES {
                 let what = format!("blank, {slots} slots, t = {t}");
-                self.add("fit: blank", what, blank(slots, t));
+                let sheet = self.edition.blank_sheet(slots, t);
+                self.add("fit: blank", what, sheet);
             }
         }
     }
@@ -72,8 +83,8 @@ impl Sheets {
         for round in 0..60 {
             let t = CLASSES[round % 3];
             let slots = 1 + self.random.below(20);
-            let keys = [self.random.bytes(2 * t), self.random.bytes(2 * t)];
-            let mut sheet = blank(slots, t);
+            let keys = self.keys(t);
+            let mut sheet = self.edition.blank_sheet(slots, t);
             for _ in 0..self.random.below(30) {
                 let slot = self.random.below(slots);
                 if self.random.below(5) == 0 {
@@ -89,6 +100,13 @@ impl Sheets {
         }
     }
 
+    /// Keys that serve a blank sheet of a class.
+    fn keys(&mut self, t: usize) -> [Vec<u8>; 2] {
+        match self.edition {
+            Edition::One => [self.random.bytes(2 * t), self.random.bytes(2 * t)],
+        }
+    }
+
     /// Numbers of every count of digits. A listing doesn't test the check.
     fn digits(&mut self) {
         let mut numbers = vec![1, u32::MAX];
@@ -99,13 +117,13 @@ impl Sheets {
         numbers.extend([255, 256, 65535, 65536, 16777215, 16777216, 1 << 31]);
         for number in numbers {
             let mut sheet = self.marked(3, number);
-            set_mark(&mut sheet, 1, number, 192);
+            set_mark(self.edition, &mut sheet, 1, number, 192);
             let what = format!("write number {number}");
             self.add("fit: numbers of every size", what, sheet);
         }
         for length in 0..=192 {
             let mut sheet = self.marked(2, 7);
-            set_mark(&mut sheet, 1, 7, length);
+            set_mark(self.edition, &mut sheet, 1, 7, length);
             let what = format!("caption length {length}");
             self.add("fit: every caption length", what, sheet);
         }
@@ -118,13 +136,14 @@ impl Sheets {
 
     /// A sheet whose every slot is marked, by numbers up to w, over any field.
     fn marked(&mut self, slots: usize, w: u32) -> Vec<u8> {
-        let mut sheet = blank(slots, CLASSES[self.random.below(3)]);
+        let t = CLASSES[self.random.below(3)];
+        let mut sheet = self.edition.blank_sheet(slots, t);
         sheet[4..8].copy_from_slice(&w.to_be_bytes());
         for slot in 0..slots {
             let number = 1 + self.random.next() as u32 % w;
             let length = self.random.below(FIELD + 1) as u16;
-            set_mark(&mut sheet, slot, number, length);
-            for place in field_places(slots, slot) {
+            set_mark(self.edition, &mut sheet, slot, number, length);
+            for place in self.edition.field_place(slots, slot) {
                 sheet[place] = self.random.next() as u8;
             }
         }
@@ -140,10 +159,8 @@ impl Sheets {
             self.add("unfit: slot count", format!("2 slots that say {n}"), sheet);
         }
         // The length that such a count would ask for, where it isn't 1 to 256.
-        for n in [0_usize, 257, 300] {
-            let mut sheet = vec![0; HEADER + (MARK + FIELD) * n];
-            sheet[0..2].copy_from_slice(&(n as u16).to_be_bytes());
-            sheet[2..4].copy_from_slice(&[4, 1]);
+        for n in [0, 257, 300] {
+            let sheet = self.edition.blank_sheet(n, 4);
             self.add("unfit: slot count", format!("{n} slots"), sheet);
         }
         for t in (0..=255).filter(|t| ![4, 6, 8].contains(t)) {
@@ -151,7 +168,8 @@ impl Sheets {
             sheet[2] = t;
             self.add("unfit: key class", format!("t = {t}"), sheet);
         }
-        for edition in [0, 2, 3, 4, 127, 129, 255] {
+        let next = Edition::BLANKED.number() + 1;
+        for edition in [0, next, next + 1, next + 2, 127, 129, 255] {
             let mut sheet = self.marked(1, 9);
             sheet[3] = edition;
             self.add("unfit: edition", format!("edition {edition}"), sheet);
@@ -159,15 +177,16 @@ impl Sheets {
     }
 
     fn length_faults(&mut self) {
-        for length in 0..HEADER {
-            let sheet = blank(1, 4)[..length].to_vec();
+        for length in 0..8 {
+            let sheet = self.edition.blank_sheet(1, 4)[..length].to_vec();
             self.add("unfit: under 8 bytes", format!("{length} bytes"), sheet);
         }
+        let header = self.edition.header();
         for slots in [1, 2, 3, 256] {
-            let right = HEADER + (MARK + FIELD) * slots;
+            let right = self.edition.sheet_length(slots);
             for length in [
-                8,
-                9,
+                header,
+                header + 1,
                 right - 208,
                 right - 1,
                 right + 1,
@@ -188,7 +207,7 @@ impl Sheets {
             for slot in [0, slots / 2, slots - 1] {
                 for (fault, break_it) in MARK_FAULTS {
                     let mut sheet = self.marked(slots, 300);
-                    break_it(&mut sheet, slots, slot);
+                    break_it(self.edition, &mut sheet, slots, slot);
                     let what = format!("{fault}, slot {slot} of {slots}");
                     self.add("unfit: a mark", what, sheet);
                 }
@@ -199,12 +218,13 @@ impl Sheets {
     // ---- Either ----
 
     fn changed_bytes(&mut self) {
+        let header = self.edition.header();
         for round in 0..150 {
             let slots = 1 + self.random.below(3);
             let mut sheet = self.marked(slots, 40);
             let place = match round % 3 {
-                0 => self.random.below(HEADER),
-                1 => HEADER + self.random.below(MARK * slots),
+                0 => self.random.below(header),
+                1 => header + self.random.below(MARK * slots),
                 _ => self.random.below(sheet.len()),
             };
             sheet[place] ^= 1 << self.random.below(8);
@@ -221,9 +241,11 @@ impl Sheets {
 
     fn no_sheets(&mut self) {
         let largest = self.marked(256, u32::MAX);
-        self.add("fit: 53,256 bytes", "53,256 bytes".into(), largest.clone());
+        let most = largest.len();
+        let fit = format!("fit: {}", bytes(most));
+        self.add(&fit, bytes(most), largest.clone());
         for (length, group) in [
-            (53_257, "unfit: 53,257 bytes"),
+            (most + 1, &format!("unfit: {}", bytes(most + 1))[..]),
             (1 << 20, "unfit: a megabyte"),
         ] {
             let mut longer = largest.clone();
@@ -236,75 +258,69 @@ impl Sheets {
             self.add(group, format!("{length} random bytes"), random);
         }
         // The listing would be that of two slots if the rest weren't there.
-        let mut tail = blank(2, 4);
+        let mut tail = self.edition.blank_sheet(2, 4);
         tail.resize(1 << 20, 0);
         self.add("unfit: a megabyte", "two slots and zeros".into(), tail);
     }
 }
 
-type Break = fn(&mut [u8], usize, usize);
+/// "53,256 bytes".
+fn bytes(length: usize) -> String {
+    format!("{},{:03} bytes", length / 1000, length % 1000)
+}
+
+type Break = fn(Edition, &mut [u8], usize, usize);
 
 /// The ways to break a mark that was whole.
 const MARK_FAULTS: [(&str, Break); 11] = [
-    ("write number 0", |sheet, _, slot| {
-        set_mark(sheet, slot, 0, 5)
+    ("write number 0", |edition, sheet, _, slot| {
+        set_mark(edition, sheet, slot, 0, 5)
     }),
-    ("write number 0, length 0", |sheet, _, slot| {
-        set_mark(sheet, slot, 0, 0)
+    ("write number 0, length 0", |edition, sheet, _, slot| {
+        set_mark(edition, sheet, slot, 0, 0)
     }),
-    ("write number above w", |sheet, _, slot| {
-        set_mark(sheet, slot, 301, 5)
+    ("write number above w", |edition, sheet, _, slot| {
+        set_mark(edition, sheet, slot, 301, 5)
     }),
-    ("write number far above w", |sheet, _, slot| {
-        set_mark(sheet, slot, u32::MAX, 5)
+    ("write number far above w", |edition, sheet, _, slot| {
+        set_mark(edition, sheet, slot, u32::MAX, 5)
     }),
-    ("length 193", |sheet, _, slot| set_mark(sheet, slot, 1, 193)),
-    ("length 256", |sheet, _, slot| set_mark(sheet, slot, 1, 256)),
-    ("length 65535", |sheet, _, slot| {
-        set_mark(sheet, slot, 1, 65535)
+    ("length 193", |edition, sheet, _, slot| {
+        set_mark(edition, sheet, slot, 1, 193)
     }),
-    ("first zero byte", |sheet, _, slot| {
-        sheet[mark_place(slot) + 6] = 1
+    ("length 256", |edition, sheet, _, slot| {
+        set_mark(edition, sheet, slot, 1, 256)
     }),
-    ("second zero byte", |sheet, _, slot| {
-        sheet[mark_place(slot) + 7] = 128
+    ("length 65535", |edition, sheet, _, slot| {
+        set_mark(edition, sheet, slot, 1, 65535)
     }),
-    ("blank but for the check", |sheet, slots, slot| {
-        clear(sheet, slots, slot);
-        sheet[mark_place(slot) + 15] = 1;
+    ("first zero byte", |edition, sheet, _, slot| {
+        sheet[edition.mark_place(slot).start + 6] = 1
+    }),
+    ("second zero byte", |edition, sheet, _, slot| {
+        sheet[edition.mark_place(slot).start + 7] = 128
+    }),
+    ("blank but for the check", |edition, sheet, slots, slot| {
+        clear(edition, sheet, slots, slot);
+        sheet[edition.mark_place(slot).start + 15] = 1;
     }),
     (
         "blank but for the field's last byte",
-        |sheet, slots, slot| {
-            clear(sheet, slots, slot);
-            sheet[field_places(slots, slot).end - 1] = 1;
+        |edition, sheet, slots, slot| {
+            clear(edition, sheet, slots, slot);
+            sheet[edition.field_place(slots, slot).end - 1] = 1;
         },
     ),
 ];
 
-fn blank(slots: usize, t: usize) -> Vec<u8> {
-    let mut sheet = vec![0; HEADER + (MARK + FIELD) * slots];
-    assert_eq!(reference::blank(&mut sheet, slots, t).number, 0);
-    sheet
-}
-
-fn clear(sheet: &mut [u8], slots: usize, slot: usize) {
-    sheet[mark_place(slot)..][..MARK].fill(0);
-    sheet[field_places(slots, slot)].fill(0);
-}
-
-fn mark_place(slot: usize) -> usize {
-    HEADER + MARK * slot
-}
-
-fn field_places(slots: usize, slot: usize) -> std::ops::Range<usize> {
-    let start = HEADER + MARK * slots + FIELD * slot;
-    start..start + FIELD
+fn clear(edition: Edition, sheet: &mut [u8], slots: usize, slot: usize) {
+    sheet[edition.mark_place(slot)].fill(0);
+    sheet[edition.field_place(slots, slot)].fill(0);
 }
 
 /// Puts write number and length into a mark, with any check.
-fn set_mark(sheet: &mut [u8], slot: usize, number: u32, length: u16) {
-    let mark = &mut sheet[mark_place(slot)..][..MARK];
+fn set_mark(edition: Edition, sheet: &mut [u8], slot: usize, number: u32, length: u16) {
+    let mark = &mut sheet[edition.mark_place(slot)];
     mark[0..4].copy_from_slice(&number.to_be_bytes());
     mark[4..6].copy_from_slice(&length.to_be_bytes());
     mark[8..16].fill(0x5a);

@@ -1,7 +1,7 @@
 -- `listing::put_listing` meets its contract.
 use borrow.Author.Needs.{needs}
 use borrow.Author.Tests.{not-true, not-false}
-use Rattle.listing.proofs.Whole.{append-unfit, sheet-long, sheet-of, class-small, slots-small, append-listing}
+use Rattle.listing.proofs.Whole.{append-unfit, sheet-long, sheet-header, sheet-of, class-small, slots-small, append-listing}
 use Rattle.listing.proofs.put_listing.Statement.{statement}
 use Rattle.listing.proofs.put_listing.Tie as tie
 
@@ -14,7 +14,7 @@ put-listing-spec =
     (λ c κs. search needs)
     (λ c. search needs)
     (λ c. search (append-unfit, not-true, needs))
-    (λ c κs. search (sheet-long, not-false, needs))
+    (λ c κs. search (sheet-header, not-false, needs))
     (λ c κs. search (class-small, not-false, needs))
     (λ c κs. search (sheet-long, not-false, needs))
     (λ c κs. (search needs, (search (slots-small, not-false, needs), search needs, search needs)))

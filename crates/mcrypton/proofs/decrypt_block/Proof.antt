@@ -23,9 +23,9 @@ returns-3 : tie.Need-returns-3
 unfolding decrypting
 returns-3 c = search (wrong-output, not-false)
 
-decrypt-by-path-requires : tie.Need-decrypt-by-path-requires
+decrypt-chosen-requires : tie.Need-decrypt-chosen-requires
 unfolding backStart
-decrypt-by-path-requires c κs = ap (λ (u : Register). u .round) (c .backward-start .ensures)
+decrypt-chosen-requires c κs = ap (λ (u : Register). u .round) (c .backward-start .ensures)
 
 returns-4 : tie.Need-returns-4
 unfolding decrypting decryptBytes decryptBlock decryptFrom decryptionKey backRegister
@@ -34,7 +34,7 @@ returns-4 c = let s = c .before .before .before .before .before .before .before 
     (c .before .before .before .before .before .before .before .before .before .if3 .left)
     (c .before .before .put-block .ensures
     ∙ through-words (decryptFrom (s .path)) (backStart (start (wordsOf (s .key .now)))) _ (s .block .now) _ _ _ (c .before .before .before .before .before .backward-start .ensures ∙ ap backStart (c .before .before .before .before .before .before .start .ensures)) (c .before .before .before .before .before .before .before .before .before .before .if2 .left)
-    (c .before .before .before .before .before .before .before .before .block-at .ensures) (c .before .before .before .before .before .before .before .block-words .ensures) (c .before .before .before .before .decrypt-by-path .ensures))
+    (c .before .before .before .before .before .before .before .before .block-at .ensures) (c .before .before .before .before .before .before .before .block-words .ensures) (c .before .before .before .before .decrypt-chosen .ensures))
 
 pub decrypt-block-spec : {M : Type 1} → statement M
-decrypt-block-spec = tie.close (tie.spec (λ c κs. search needs) returns returns-2 returns-3 (λ c κs. search needs) (λ c κs. search needs) (λ c κs. search needs) (λ c κs. search needs) decrypt-by-path-requires (λ c κs. search needs) (λ c. search needs) returns-4)
+decrypt-block-spec = tie.close (tie.spec (λ c κs. search needs) returns returns-2 returns-3 (λ c κs. search needs) (λ c κs. search needs) (λ c κs. search needs) (λ c κs. search needs) decrypt-chosen-requires (λ c κs. search needs) (λ c. search needs) returns-4)

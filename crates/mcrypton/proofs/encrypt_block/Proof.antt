@@ -23,9 +23,9 @@ returns-3 : tie.Need-returns-3
 unfolding encrypting
 returns-3 c = search (wrong-output, not-false)
 
-encrypt-by-path-requires : tie.Need-encrypt-by-path-requires
+encrypt-chosen-requires : tie.Need-encrypt-chosen-requires
 unfolding start
-encrypt-by-path-requires c κs = ap (λ (u : Register). u .round) (c .start .ensures)
+encrypt-chosen-requires c κs = ap (λ (u : Register). u .round) (c .start .ensures)
 
 returns-4 : tie.Need-returns-4
 unfolding encrypting encryptBytes encryptBlock encryptFrom encryptionKey register
@@ -34,7 +34,7 @@ returns-4 c = let s = c .before .before .before .before .before .before .before 
     (c .before .before .before .before .before .before .before .before .if3 .left)
     (c .before .before .put-block .ensures
     ∙ through-words (encryptFrom (s .path)) (start (wordsOf (s .key .now))) _ (s .block .now) _ _ _ (c .before .before .before .before .before .start .ensures) (c .before .before .before .before .before .before .before .before .before .if2 .left)
-    (c .before .before .before .before .before .before .before .block-at .ensures) (c .before .before .before .before .before .before .block-words .ensures) (c .before .before .before .before .encrypt-by-path .ensures))
+    (c .before .before .before .before .before .before .before .block-at .ensures) (c .before .before .before .before .before .before .block-words .ensures) (c .before .before .before .before .encrypt-chosen .ensures))
 
 pub encrypt-block-spec : {M : Type 1} → statement M
-encrypt-block-spec = tie.close (tie.spec (λ c κs. search needs) returns returns-2 returns-3 (λ c κs. search needs) (λ c κs. search needs) (λ c κs. search needs) encrypt-by-path-requires (λ c κs. search needs) (λ c. search needs) returns-4)
+encrypt-block-spec = tie.close (tie.spec (λ c κs. search needs) returns returns-2 returns-3 (λ c κs. search needs) (λ c κs. search needs) (λ c κs. search needs) encrypt-chosen-requires (λ c κs. search needs) (λ c. search needs) returns-4)

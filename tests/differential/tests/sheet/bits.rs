@@ -1,31 +1,37 @@
 //! Every single bit of a sheet flipped, one at a time.
 
 use crate::both;
+use differential::edition::Edition;
 use differential::random::{seed, Random};
 use differential::report;
-use differential::sheets::{blank_sheet, Keys, FIELD};
+use differential::sheets::{Keys, FIELD};
 
 /// Slot 0 blank, slot 1 an empty caption, slot 2 a full one; each flip, then
 /// each call on each slot.
 fn every_bit(t: usize) {
     let mut random = Random::of_part(530 + t as u64);
     let mut both = both("bits");
-    let keys = Keys::unlike(&mut random, t);
-    let mut sheet = blank_sheet(3, t);
-    both.write(&keys, &mut sheet, 1, b"");
-    both.write(&keys, &mut sheet, 2, &random.bytes(FIELD));
-    let bits = 8 * sheet.len();
-    let mut unfit = 0;
-    for bit in 0..bits {
-        both.label = format!("bit {bit} of a sheet with t = {t}, seed {:#x}", seed());
-        let mut flipped = sheet.clone();
-        flipped[bit / 8] ^= 1 << (bit % 8);
-        unfit += usize::from(!reference::fit(&flipped));
-        both.list(&flipped);
-        for slot in 0..=3 {
-            both.read(&keys, &flipped, slot, FIELD);
-            both.write(&keys, &mut flipped.clone(), slot, b"another caption");
-            both.clear(&mut flipped.clone(), slot);
+    let (mut bits, mut unfit) = (0, 0);
+    for edition in Edition::ALL {
+        let keys = Keys::own(&mut random, edition, t);
+        let mut sheet = edition.blank_sheet(3, t);
+        both.write(&keys, &mut sheet, 1, b"");
+        both.write(&keys, &mut sheet, 2, &random.bytes(FIELD));
+        for bit in 0..8 * sheet.len() {
+            both.label = format!(
+                "bit {bit} of a sheet of edition {edition:?} with t = {t}, seed {:#x}",
+                seed()
+            );
+            let mut flipped = sheet.clone();
+            flipped[bit / 8] ^= 1 << (bit % 8);
+            bits += 1;
+            unfit += usize::from(!reference::fit(&flipped));
+            both.list(&flipped);
+            for slot in 0..=3 {
+                both.read(&keys, &flipped, slot, FIELD);
+                both.write(&keys, &mut flipped.clone(), slot, b"another caption");
+                both.clear(&mut flipped.clone(), slot);
+            }
         }
     }
     let (calls, met) = (both.calls, both.numbers_met());

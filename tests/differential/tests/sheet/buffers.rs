@@ -2,15 +2,19 @@
 
 use crate::both;
 use differential::both::Both;
+use differential::edition::Edition;
 use differential::random::{seed, Random};
 use differential::report;
-use differential::sheets::{
-    blank_sheet, field_place, fit_sheet, mark_place, near_sheet, Keys, CLASSES, FAULTS, FIELD,
-};
+use differential::sheets::{fit_sheet, kinds, near_sheet, Keys, CLASSES, FAULTS, FIELD};
 
-/// Each call on a buffer.
-pub fn each_call(both: &mut Both, random: &mut Random, sheet: &[u8]) {
-    let n = sheet.len().saturating_sub(8) / 208;
+/// The slots of an edition's sheet that a length has room for.
+fn room(edition: Edition, length: usize) -> usize {
+    length.saturating_sub(edition.header()) / 208
+}
+
+/// Each call on a buffer, at the slots of such a sheet of an edition.
+pub fn each_call(both: &mut Both, random: &mut Random, edition: Edition, sheet: &[u8]) {
+    let n = room(edition, sheet.len());
     let t = random.pick(&CLASSES);
     let class = match sheet.get(2) {
         Some(4) => 4,
@@ -33,11 +37,11 @@ pub fn each_call(both: &mut Both, random: &mut Random, sheet: &[u8]) {
 
 /// A buffer of a length with the header of a sheet of about that length, so
 /// that more than the first test is reached.
-fn with_header(random: &mut Random, length: usize) -> Vec<u8> {
+fn with_header(random: &mut Random, edition: Edition, length: usize) -> Vec<u8> {
     let mut buffer = random.bytes(length);
-    let n = (length.saturating_sub(8) / 208 + random.below(2)) as u16;
+    let n = (room(edition, length) + random.below(2)) as u16;
     let [high, low] = n.to_be_bytes();
-    let header = [high, low, random.pick(&[4, 6, 8]), 1];
+    let header = [high, low, random.pick(&[4, 6, 8]), edition.number()];
     for (place, byte) in buffer.iter_mut().zip(header) {
         *place = byte;
     }
@@ -45,17 +49,17 @@ fn with_header(random: &mut Random, length: usize) -> Vec<u8> {
 }
 
 /// A sheet of the nearest count of slots, cut or made longer to a length.
-fn resized(random: &mut Random, length: usize, filling: u8) -> Vec<u8> {
-    let nearest = (length.saturating_sub(8) + 104) / 208;
+fn resized(random: &mut Random, edition: Edition, length: usize, filling: u8) -> Vec<u8> {
+    let nearest = (length.saturating_sub(edition.header()) + 104) / 208;
     let t = random.pick(&CLASSES);
-    let mut sheet = fit_sheet(random, nearest.clamp(1, 256), t);
+    let mut sheet = fit_sheet(random, edition, nearest.clamp(1, 256), t);
     sheet.resize(length, filling);
     sheet
 }
 
-/// The buffers of a length.
-pub fn buffers(random: &mut Random, length: usize) -> Vec<Vec<u8>> {
-    let mut zero_after_header = with_header(random, length);
+/// The buffers of a length, some with a header of an edition.
+pub fn buffers(random: &mut Random, edition: Edition, length: usize) -> Vec<Vec<u8>> {
+    let mut zero_after_header = with_header(random, edition, length);
     for byte in zero_after_header.iter_mut().skip(4) {
         *byte = 0;
     }
@@ -63,23 +67,26 @@ pub fn buffers(random: &mut Random, length: usize) -> Vec<Vec<u8>> {
         vec![0; length],
         vec![0xff; length],
         random.bytes(length),
-        with_header(random, length),
+        with_header(random, edition, length),
         zero_after_header,
-        resized(random, length, 0),
-        resized(random, length, 1),
+        resized(random, edition, length, 0),
+        resized(random, edition, length, 1),
     ]
 }
 
-fn each_length(name: &str, part: u64, lengths: impl Iterator<Item = usize>) {
+/// The lengths of each edition.
+fn each_length(name: &str, part: u64, lengths: impl Fn(Edition) -> Vec<usize>) {
     let mut random = Random::of_part(part);
     let mut both = both(name);
     let (mut count, mut fit) = (0, 0);
-    for length in lengths {
-        both.label = format!("{name}, length {length}, seed {:#x}", seed());
-        for buffer in buffers(&mut random, length) {
-            each_call(&mut both, &mut random, &buffer);
-            count += 1;
-            fit += usize::from(reference::fit(&buffer));
+    for edition in Edition::ALL {
+        for length in lengths(edition) {
+            both.label = format!("{name}, length {length}, seed {:#x}", seed());
+            for buffer in buffers(&mut random, edition, length) {
+                each_call(&mut both, &mut random, edition, &buffer);
+                count += 1;
+                fit += usize::from(reference::fit(&buffer));
+            }
         }
     }
     let (calls, met) = (both.calls, both.numbers_met());
@@ -90,13 +97,19 @@ fn each_length(name: &str, part: u64, lengths: impl Iterator<Item = usize>) {
 
 #[test]
 fn every_length_from_0_to_700() {
-    each_length("lengths 0 to 700", 540, 0..=700);
+    each_length("lengths 0 to 700", 540, |_| (0..=700).collect());
 }
 
 #[test]
 fn lengths_around_the_longest() {
-    let lengths = (53_244..=53_270).chain([53_047, 53_048, 53_049, 53_463, 53_464, 53_465]);
-    each_length("lengths around 53256", 541, lengths);
+    let name = format!("lengths around {}", Edition::BLANKED.sheet_length(256));
+    each_length(&name, 541, |edition| {
+        let [shorter, longest, longer] = [255, 256, 257].map(|n| edition.sheet_length(n));
+        (longest - 12..=longest + 14)
+            .chain(shorter - 1..=shorter + 1)
+            .chain(longer - 1..=longer + 1)
+            .collect()
+    });
 }
 
 /// Fit sheets with one rule broken, of several counts of slots.
@@ -105,13 +118,13 @@ fn near_sheets() {
     let mut random = Random::of_part(542);
     let mut both = both("near-sheets");
     let (mut count, mut fit) = (0, 0);
-    for t in CLASSES {
+    for (edition, t) in kinds() {
         for n in [1, 2, 3, 9, 256] {
             for fault in 0..FAULTS {
                 let repeats = if n == 256 { 2 } else { 12 };
                 for _ in 0..repeats {
-                    let sheet = near_sheet(&mut random, n, t, fault);
-                    each_call(&mut both, &mut random, &sheet);
+                    let sheet = near_sheet(&mut random, edition, n, t, fault);
+                    each_call(&mut both, &mut random, edition, &sheet);
                     count += 1;
                     fit += usize::from(reference::fit(&sheet));
                 }
@@ -129,17 +142,19 @@ fn near_sheets() {
 fn a_fault_in_each_slot() {
     let mut random = Random::of_part(543);
     let mut both = both("a fault in each slot");
-    let keys = Keys::unlike(&mut random, 4);
-    let sheet = blank_sheet(256, 4);
-    for slot in 0..256 {
-        let (mark, field) = (mark_place(slot), field_place(256, slot));
-        for byte in [mark.start, mark.end - 1, field.start, field.end - 1] {
-            let mut faulty = sheet.clone();
-            faulty[byte] = 1;
-            assert!(!reference::fit(&faulty));
-            both.clear(&mut faulty, slot);
-            both.read(&keys, &faulty, 0, FIELD);
-            both.write(&keys, &mut faulty, 255, b"caption");
+    for edition in Edition::ALL {
+        let keys = Keys::own(&mut random, edition, 4);
+        let sheet = edition.blank_sheet(256, 4);
+        for slot in 0..256 {
+            let (mark, field) = (edition.mark_place(slot), edition.field_place(256, slot));
+            for byte in [mark.start, mark.end - 1, field.start, field.end - 1] {
+                let mut faulty = sheet.clone();
+                faulty[byte] = 1;
+                assert!(!reference::fit(&faulty));
+                both.clear(&mut faulty, slot);
+                both.read(&keys, &faulty, 0, FIELD);
+                both.write(&keys, &mut faulty, 255, b"caption");
+            }
         }
     }
     let (calls, met) = (both.calls, both.numbers_met());

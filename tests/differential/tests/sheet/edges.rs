@@ -3,17 +3,15 @@
 
 use crate::{both, FAR_SLOTS};
 use differential::both::Both;
+use differential::edition::Edition;
 use differential::random::Random;
 use differential::report;
-use differential::sheets::{
-    blank_sheet, field_place, last_number, mark_place, set_last_number, sheet_length, Keys,
-    CLASSES, FIELD,
-};
+use differential::sheets::{kinds, last_number, set_last_number, Keys, FIELD};
 use reference::{
     ALTERED, NO_SUCH_SLOT, OTHER_KEY_CLASS, OVERLONG, TWIN_KEYS, WORN, WRONG_KEY, WRONG_SPAN,
 };
 
-fn done(both: &Both, edge: &str) {
+pub fn done(both: &Both, edge: &str) {
     let (calls, met) = (both.calls, both.numbers_met());
     report(&format!("sheet: {edge}: {calls} calls: {met}"));
 }
@@ -24,7 +22,7 @@ fn key_bytes() {
     let mut random = Random::of_part(500);
     let mut both = both("key bytes");
     let lengths = || (0..=20).chain([8 + 256, 12 + 256, 16 + 65_536]);
-    for t in CLASSES {
+    for (edition, t) in kinds() {
         for sealing in lengths() {
             for checking in lengths() {
                 let keys = Keys::of_lengths(&mut random, sealing, checking);
@@ -34,7 +32,7 @@ fn key_bytes() {
                     (8 | 12 | 16, _) => 0,
                     _ => WRONG_KEY,
                 };
-                let mut sheet = blank_sheet(2, t);
+                let mut sheet = edition.blank_sheet(2, t);
                 let answer = both.write(&keys, &mut sheet, 1, b"caption");
                 assert_eq!(answer.number, number, "{sealing} {checking} {t}");
                 let (answer, _) = both.read(&keys, &sheet, 1, FIELD);
@@ -50,10 +48,10 @@ fn key_bytes() {
 fn keys_that_differ_in_one_bit() {
     let mut random = Random::of_part(508);
     let mut both = both("keys that differ in one bit");
-    for t in CLASSES {
+    for (edition, t) in kinds() {
         for bit in 0..16 * t {
             let mut keys = Keys::twins(&mut random, 2 * t);
-            let mut sheet = blank_sheet(1, t);
+            let mut sheet = edition.blank_sheet(1, t);
             let answer = both.write(&keys, &mut sheet, 0, b"twins");
             assert_eq!(answer.number, TWIN_KEYS);
             assert_eq!(both.read(&keys, &sheet, 0, FIELD).0.number, TWIN_KEYS);
@@ -70,9 +68,9 @@ fn keys_that_differ_in_one_bit() {
 fn caption_bytes() {
     let mut random = Random::of_part(501);
     let mut both = both("caption bytes");
-    for t in CLASSES {
-        let keys = Keys::unlike(&mut random, t);
-        let mut sheet = blank_sheet(2, t);
+    for (edition, t) in kinds() {
+        let keys = Keys::own(&mut random, edition, t);
+        let mut sheet = edition.blank_sheet(2, t);
         for length in (0..=400).chain([192 + 256, 65_536, 65_536 + 192]) {
             let caption = random.bytes(length);
             let answer = both.write(&keys, &mut sheet, 1, &caption);
@@ -91,10 +89,10 @@ fn caption_bytes() {
 fn slots() {
     let mut random = Random::of_part(502);
     let mut both = both("slots");
-    for t in CLASSES {
+    for (edition, t) in kinds() {
         for n in [1, 2, 3, 16, 255, 256] {
-            let keys = Keys::unlike(&mut random, t);
-            let mut sheet = blank_sheet(n, t);
+            let keys = Keys::own(&mut random, edition, t);
+            let mut sheet = edition.blank_sheet(n, t);
             let far = FAR_SLOTS.into_iter().filter(|slot| *slot > n);
             for slot in [0, n / 2, n - 1, n, n + 1].into_iter().chain(far) {
                 let number = if slot < n { 0 } else { NO_SUCH_SLOT };
@@ -113,9 +111,9 @@ fn slots() {
 fn last_write_numbers() {
     let mut random = Random::of_part(503);
     let mut both = both("last write numbers");
-    for t in CLASSES {
-        let keys = Keys::unlike(&mut random, t);
-        let mut sheet = blank_sheet(2, t);
+    for (edition, t) in kinds() {
+        let keys = Keys::own(&mut random, edition, t);
+        let mut sheet = edition.blank_sheet(2, t);
         set_last_number(&mut sheet, 4294967294);
         assert_eq!(both.write(&keys, &mut sheet, 1, b"the last").number, 0);
         assert_eq!(last_number(&sheet), 4294967295);
@@ -128,7 +126,7 @@ fn last_write_numbers() {
         assert_eq!(last_number(&sheet), 4294967295);
         // Carries between the bytes of w.
         for w in [0xff, 0xffff, 0x00ff_ffff, 0x0100_00ff, 0x7fff_ffff] {
-            let mut sheet = blank_sheet(1, t);
+            let mut sheet = edition.blank_sheet(1, t);
             set_last_number(&mut sheet, w);
             assert_eq!(both.write(&keys, &mut sheet, 0, b"carried").number, 0);
             assert_eq!(last_number(&sheet), w + 1);
@@ -138,72 +136,13 @@ fn last_write_numbers() {
     done(&both, "w = 4294967294, 4294967295 and carries");
 }
 
-/// n = 1 is 216 bytes, n = 256 is 53256; t is 4, 6 or 8.
-#[test]
-fn blanking() {
-    let mut random = Random::of_part(504);
-    let mut both = both("blanking");
-    let wrapping = (1 << 60) + 1; // 208 times it is 208 in 64 bits
-    let counts = [
-        0,
-        1,
-        2,
-        3,
-        255,
-        256,
-        257,
-        258,
-        65_536,
-        65_537,
-        wrapping,
-        usize::MAX,
-    ];
-    let classes = || (0..=20).chain([256 + 4, 65_536 + 6, (1 << 32) + 8, usize::MAX]);
-    for n in counts {
-        let near = if n <= 258 { sheet_length(n) } else { 216 };
-        for length in [
-            0,
-            1,
-            7,
-            8,
-            9,
-            215,
-            216,
-            217,
-            near - 1,
-            near,
-            near + 1,
-            near + 208,
-        ] {
-            for t in classes() {
-                let mut sheet = random.bytes(length);
-                let number = match (t, n) {
-                    (4 | 6 | 8, 1..=256) if length == sheet_length(n) => 0,
-                    (4 | 6 | 8, _) => WRONG_SPAN,
-                    _ => WRONG_KEY,
-                };
-                assert_eq!(
-                    both.blank(&mut sheet, n, t).number,
-                    number,
-                    "{n} {t} {length}"
-                );
-                assert!(number != 0 || sheet == blank_sheet(n, t));
-            }
-        }
-    }
-    done(
-        &both,
-        "blanking with counts, key words and buffers on both sides",
-    );
-}
-
 #[test]
 fn windows() {
     let mut random = Random::of_part(505);
     let mut both = both("windows");
-    for t in CLASSES {
-        let keys = Keys::unlike(&mut random, t);
-        let mut sheet = blank_sheet(2, t);
+    for (edition, t) in kinds() {
+        let keys = Keys::own(&mut random, edition, t);
+        let mut sheet = edition.blank_sheet(2, t);
         both.write(&keys, &mut sheet, 0, &random.bytes(100));
         for length in (0..=400).chain([192 + 256, 192 + 65_536]) {
             for slot in 0..2 {
@@ -222,11 +161,11 @@ fn windows() {
 fn sheets_of_1_and_256_slots() {
     let mut random = Random::of_part(506);
     let mut both = both("sheets of 1 and 256 slots");
-    for t in CLASSES {
+    for (edition, t) in kinds() {
         for n in [1, 256] {
-            let keys = Keys::unlike(&mut random, t);
-            let mut sheet = vec![0xa5; sheet_length(n)];
-            both.blank(&mut sheet, n, t);
+            let keys = Keys::own(&mut random, edition, t);
+            let mut sheet = vec![0xa5; edition.sheet_length(n)];
+            both.begin(edition, &mut sheet, n, t);
             for slot in 0..n {
                 let length = random.below(FIELD + 1);
                 let caption = random.bytes(length);
@@ -253,14 +192,14 @@ fn sheets_of_1_and_256_slots() {
 fn zeros_past_the_length() {
     let mut random = Random::of_part(507);
     let mut both = both("zeros past the length");
-    for t in CLASSES {
-        let keys = Keys::unlike(&mut random, t);
+    for (edition, t) in kinds() {
+        let keys = Keys::own(&mut random, edition, t);
         for nonzero in [0, 1, 8, 9, 100, 191, 192] {
-            let mut sheet = blank_sheet(2, t);
+            let mut sheet = edition.blank_sheet(2, t);
             let caption: Vec<u8> = (0..nonzero).map(|i| i as u8 | 1).collect();
             both.write(&keys, &mut sheet, 1, &caption);
             for length in 0..=192 {
-                put_length(&keys, &mut sheet, length as u16);
+                put_length(edition, &keys, &mut sheet, length as u16);
                 let (answer, _) = both.read(&keys, &sheet, 1, FIELD);
                 let number = if length < nonzero { ALTERED } else { 0 };
                 assert_eq!(answer.number, number, "{nonzero} {length}");
@@ -272,13 +211,13 @@ fn zeros_past_the_length() {
 
 /// Gives slot 1 of a sheet of 2 another length, and the check that belongs to
 /// it.
-fn put_length(keys: &Keys, sheet: &mut [u8], length: u16) {
-    let mark = mark_place(1).start;
+fn put_length(edition: Edition, keys: &Keys, sheet: &mut [u8], length: u16) {
+    let mark = edition.mark_place(1).start;
     sheet[mark + 4..mark + 6].copy_from_slice(&length.to_be_bytes());
     let mut message = sheet[mark..mark + 4].to_vec();
     message.extend([0, 1]);
     message.extend(length.to_be_bytes());
-    message.extend(&sheet[field_place(2, 1)]);
+    message.extend(&sheet[edition.field_place(2, 1)]);
     let check = &mut sheet[mark + 8..mark + 16];
     reference::cmac(&keys.checking, &message, check);
 }

@@ -1,9 +1,10 @@
 //! The order of refusals: every combination of faults in one call.
 
 use crate::both;
+use differential::edition::Edition;
 use differential::random::Random;
 use differential::report;
-use differential::sheets::{blank_sheet, mark_place, set_last_number, Keys, CLASSES, FIELD};
+use differential::sheets::{kinds, set_last_number, Keys, CLASSES, FIELD, UNKNOWN_EDITION};
 
 const SLOTS: usize = 5;
 
@@ -29,19 +30,24 @@ fn pairs(random: &mut Random, t: usize, right: &Keys) -> Vec<Keys> {
 
 /// A sheet with a written slot 0, an altered one 1, an empty caption in 2 and
 /// two blank ones; then the same with faults in the layout.
-fn sheets(random: &mut Random, t: usize, keys: &Keys, w: u32) -> Vec<Vec<u8>> {
-    let mut fit = blank_sheet(SLOTS, t);
+fn sheets(
+    random: &mut Random,
+    (edition, t): (Edition, usize),
+    keys: &Keys,
+    w: u32,
+) -> Vec<Vec<u8>> {
+    let mut fit = edition.blank_sheet(SLOTS, t);
     set_last_number(&mut fit, w - 3);
     for (slot, length) in [(0, 100), (1, 192), (2, 0)] {
         let caption = random.bytes(length);
         let answer = reference::write(&keys.sealing, &keys.checking, &mut fit, slot, &caption);
         assert_eq!(answer.number, 0);
     }
-    fit[mark_place(1).start + 9] ^= 0x10;
+    fit[edition.mark_place(1).start + 9] ^= 0x10;
     let mut other_edition = fit.clone();
-    other_edition[3] = 2;
+    other_edition[3] = UNKNOWN_EDITION;
     let mut last_mark_unfit = fit.clone();
-    last_mark_unfit[mark_place(SLOTS - 1).start + 7] = 1;
+    last_mark_unfit[edition.mark_place(SLOTS - 1).start + 7] = 1;
     let short = fit[..7].to_vec();
     let cut = fit[..fit.len() - 1].to_vec();
     vec![fit, other_edition, last_mark_unfit, short, cut, Vec::new()]
@@ -51,11 +57,11 @@ fn sheets(random: &mut Random, t: usize, keys: &Keys, w: u32) -> Vec<Vec<u8>> {
 fn every_combination_of_faults() {
     let mut random = Random::of_part(520);
     let mut both = both("combinations of faults");
-    for t in CLASSES {
+    for (edition, t) in kinds() {
         for w in [3, u32::MAX] {
-            let right = Keys::unlike(&mut random, t);
+            let right = Keys::own(&mut random, edition, t);
             let pairs = pairs(&mut random, t, &right);
-            for sheet in sheets(&mut random, t, &right, w) {
+            for sheet in sheets(&mut random, (edition, t), &right, w) {
                 for slot in (0..=SLOTS).chain([usize::MAX]) {
                     both.clear(&mut sheet.clone(), slot);
                     for keys in &pairs {

@@ -4,10 +4,11 @@
 
 use crate::buffers::{buffers, each_call};
 use differential::both::{Both, Direction};
+use differential::edition::Edition;
 use differential::lent::Place;
 use differential::random::{seed, Random};
 use differential::report;
-use differential::sheets::{caption_length, sheet_length, Keys, CLASSES, FIELD};
+use differential::sheets::{caption_length, kinds, Keys, FIELD};
 
 fn blocks_and_messages(both: &mut Both, random: &mut Random) {
     for key in 0..=17 {
@@ -29,11 +30,11 @@ fn blocks_and_messages(both: &mut Both, random: &mut Random) {
 /// Sheets on both sides of a page, and the longest: every slot written, read
 /// and listed, some cleared.
 fn written_sheets(both: &mut Both, random: &mut Random) {
-    for t in CLASSES {
+    for (edition, t) in kinds() {
         for n in [1, 2, 3, 19, 20, 256] {
-            let keys = Keys::unlike(random, t);
-            let mut sheet = random.bytes(sheet_length(n));
-            both.blank(&mut sheet, n, t);
+            let keys = Keys::own(random, edition, t);
+            let mut sheet = random.bytes(edition.sheet_length(n));
+            both.begin(edition, &mut sheet, n, t);
             for slot in (0..n).take(20).chain([n - 1]) {
                 let length = caption_length(random);
                 let caption = random.bytes(length);
@@ -53,14 +54,17 @@ fn fenced(place: Place, part: u64) {
     let mut both = Both::new(place, &format!("{place:?}, seed {:#x}", seed()));
     blocks_and_messages(&mut both, &mut random);
     written_sheets(&mut both, &mut random);
-    let near_pages = [4_095, 4_096, 4_097, 53_255, 53_256, 53_257];
-    for length in (0..=20)
-        .chain((21..=640).step_by(11))
-        .chain([216, 424])
-        .chain(near_pages)
-    {
-        for buffer in buffers(&mut random, length) {
-            each_call(&mut both, &mut random, &buffer);
+    for edition in Edition::ALL {
+        let longest = edition.sheet_length(256);
+        for length in (0..=20)
+            .chain((21..=640).step_by(11))
+            .chain([1, 2].map(|n| edition.sheet_length(n)))
+            .chain(4_095..=4_097)
+            .chain(longest - 1..=longest + 1)
+        {
+            for buffer in buffers(&mut random, edition, length) {
+                each_call(&mut both, &mut random, edition, &buffer);
+            }
         }
     }
     let (calls, met) = (both.calls, both.numbers_met());

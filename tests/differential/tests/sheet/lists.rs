@@ -2,11 +2,10 @@
 
 use crate::{both, FAR_SLOTS};
 use differential::both::Both;
+use differential::edition::Edition;
 use differential::random::{seed, Random};
 use differential::report;
-use differential::sheets::{
-    caption_length, last_number, set_last_number, sheet_length, Keys, CLASSES, FIELD,
-};
+use differential::sheets::{caption_length, last_number, set_last_number, Keys, CLASSES, FIELD};
 use reference::Book;
 
 /// Lists for each class; three classes make more than 20,000.
@@ -33,16 +32,16 @@ struct Asked {
     pages: u64,
 }
 
-fn list(both: &mut Both, random: &mut Random, t: usize, asked: &mut Asked) {
+fn list(both: &mut Both, random: &mut Random, (edition, t): (Edition, usize), asked: &mut Asked) {
     let slots = if random.once_in(250) {
         256
     } else {
         random.pick(&[1, 1, 2, 2, 3, 3, 4, 5, 9])
     };
     let mut state = State {
-        sheet: random.bytes(sheet_length(slots)),
+        sheet: random.bytes(edition.sheet_length(slots)),
         slots,
-        pairs: CLASSES.map(|t| Keys::unlike(random, t)),
+        pairs: CLASSES.map(|t| Keys::own(random, edition, t)),
         class: t / 2 - 2,
         book: None,
         strangers: random.once_in(4),
@@ -50,7 +49,8 @@ fn list(both: &mut Both, random: &mut Random, t: usize, asked: &mut Asked) {
     let calls = random.below(41);
     for call in 0..calls {
         if call == 0 && !random.once_in(20) {
-            blank(both, &mut state, slots, t);
+            both.begin(edition, &mut state.sheet, slots, t);
+            state.begun(slots, t);
         } else {
             state.call(both, random, asked);
         }
@@ -69,15 +69,13 @@ fn wear(random: &mut Random, state: &mut State) {
     }
 }
 
-/// A blanking; an accepted one gives the sheet its class and a new model.
-fn blank(both: &mut Both, state: &mut State, slots: usize, t: usize) {
-    if both.blank(&mut state.sheet, slots, t).number == 0 {
-        state.class = t / 2 - 2;
-        state.book = Some(Book::new(slots));
-    }
-}
-
 impl State {
+    /// The sheet is a blank one: it has its class, and a new model.
+    fn begun(&mut self, slots: usize, t: usize) {
+        self.class = t / 2 - 2;
+        self.book = Some(Book::new(slots));
+    }
+
     fn call(&mut self, both: &mut Both, random: &mut Random, asked: &mut Asked) {
         match random.below(100) {
             0..45 => self.write(both, random, asked),
@@ -209,7 +207,9 @@ impl State {
             0 => random.below(20),
             _ => random.pick(&CLASSES),
         };
-        blank(both, self, slots, t);
+        if both.blank(&mut self.sheet, slots, t).number == 0 {
+            self.begun(slots, t);
+        }
     }
 }
 
@@ -229,9 +229,14 @@ fn lists(t: usize) {
     let mut random = Random::of_part(560 + t as u64);
     let mut both = both("lists");
     let mut asked = Asked::default();
-    for number in 0..LISTS {
-        both.label = format!("list {number} of class {t}, seed {:#x}", seed());
-        list(&mut both, &mut random, t, &mut asked);
+    for edition in Edition::ALL {
+        for number in 0..LISTS {
+            both.label = format!(
+                "list {number} of edition {edition:?} and class {t}, seed {:#x}",
+                seed()
+            );
+            list(&mut both, &mut random, (edition, t), &mut asked);
+        }
     }
     assert!(both.numbers.iter().all(|times| *times > 0));
     let (calls, met) = (both.calls, both.numbers_met());

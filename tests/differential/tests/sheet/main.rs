@@ -1,6 +1,7 @@
 //! Sheets: blanking, writing, clearing and reading on both programs.
 
 mod bits;
+mod blanking;
 mod buffers;
 mod edges;
 mod faults;

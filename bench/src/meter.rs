@@ -1,0 +1,143 @@
+//! Times and instructions of a row's calls, the tables' lines, and the aims.
+
+use crate::instructions;
+use crate::timing::{Samples, Timed};
+use std::vec::IntoIter;
+
+/// What an aim is set for.
+#[derive(Clone, Copy, PartialEq)]
+pub enum Aims {
+    Reads,
+    Writes,
+    Cmac,
+    Blocks,
+    FullLayout,
+    BlankLayout,
+    None,
+}
+
+/// The most that the library is to take of the baseline's time.
+const AIMS: [(Aims, &str, f64); 6] = [
+    (Aims::Reads, "read", 0.80),
+    (Aims::Writes, "write", 0.95),
+    (Aims::Cmac, "CMAC", 0.92),
+    (Aims::Blocks, "block calls with 0xffff", 1.00),
+    (Aims::FullLayout, "layout test of a full sheet", 0.80),
+    (Aims::BlankLayout, "layout test of a blank sheet", 1.00),
+];
+
+/// Counts in the process that valgrind watches, and times in the other.
+pub struct Meter {
+    counting: bool,
+    counts: Option<IntoIter<f64>>,
+    ratios: Vec<(Aims, f64)>,
+}
+
+impl Meter {
+    pub fn counting() -> Meter {
+        Meter {
+            counting: true,
+            counts: None,
+            ratios: Vec::new(),
+        }
+    }
+
+    pub fn timing() -> Meter {
+        let counts = instructions::counted();
+        if counts.is_none() {
+            println!("valgrind isn't there, or didn't run: no instructions are counted.");
+        }
+        Meter {
+            counting: false,
+            counts: counts.map(Vec::into_iter),
+            ratios: Vec::new(),
+        }
+    }
+
+    pub fn row(&mut self, mut calls: Vec<Timed>) -> Row {
+        if self.counting {
+            instructions::make(&mut calls);
+            return Row {
+                samples: None,
+                counts: Vec::new(),
+            };
+        }
+        let counts = match &mut self.counts {
+            Some(counts) => counts.take(calls.len()).collect(),
+            None => Vec::new(),
+        };
+        Row {
+            samples: Some(Samples::of(calls)),
+            counts,
+        }
+    }
+
+    pub fn head(&self, title: &str, notes: &str, columns: &str) {
+        if !self.counting {
+            let rule = "---|".repeat(columns.split('|').count());
+            println!("\n## {title}\n\n{notes}\n\n| {columns} |\n|{rule}");
+        }
+    }
+
+    pub fn print(&self, cells: &[&str]) {
+        if !self.counting {
+            println!("| {} |", cells.join(" | "));
+        }
+    }
+
+    pub fn aim(&mut self, aim: Aims, ratio: f64) {
+        self.ratios.push((aim, ratio));
+    }
+
+    /// The aims, each with the ratios that it is set for.
+    pub fn say_aims(&self) {
+        let said = AIMS.map(|(aim, name, most)| {
+            let ratios = self.ratios.iter().filter(|(a, _)| *a == aim);
+            let (least, largest) = ratios.fold((f64::MAX, 0.0_f64), |(low, high), (_, ratio)| {
+                (low.min(*ratio), high.max(*ratio))
+            });
+            let met = if largest <= most { "met" } else { "NOT MET" };
+            format!("{name} at most {most:.2} ({least:.2} to {largest:.2}: {met})")
+        });
+        println!("\nAims, of the baseline: {}.", said.join("; "));
+    }
+}
+
+/// A row's times and counts, by the calls' places.
+pub struct Row {
+    samples: Option<Samples>,
+    counts: Vec<f64>,
+}
+
+impl Row {
+    pub fn nanoseconds(&self, call: usize) -> f64 {
+        self.samples.as_ref().map_or(0.0, |s| s.nanoseconds(call))
+    }
+
+    pub fn ratio(&self, call: usize, to: usize) -> f64 {
+        self.samples.as_ref().map_or(0.0, |s| s.ratio(call, to))
+    }
+
+    pub fn ratio_cell(&self, call: usize, to: usize) -> String {
+        format!("{:.2}", self.ratio(call, to))
+    }
+
+    /// A call's instructions, and their part of another's.
+    pub fn instructions(&self, call: usize, to: usize) -> String {
+        match (self.counts.get(call), self.counts.get(to)) {
+            (Some(count), Some(other)) => format!("{count:.0} ({:.2})", count / other),
+            _ => "-".to_string(),
+        }
+    }
+}
+
+/// Three digits that count, or as many as three decimals leave.
+pub fn figure(value: f64) -> String {
+    let decimals = match value {
+        0.0..1.0 => 3,
+        1.0..10.0 => 2,
+        10.0..100.0 => 1,
+        _ => 0,
+    };
+    format!("{value:.decimals$}")
+}

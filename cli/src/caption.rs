@@ -1,0 +1,68 @@
+//! Where the caption of `captions write` comes from.
+
+use crate::failure::Failure;
+use crate::input;
+use crate::terminal::{hint, prompt};
+use crate::words::Words;
+use captions::FIELD;
+use std::ffi::OsStr;
+use std::os::unix::ffi::OsStrExt;
+use std::path::Path;
+
+/// One byte more than a caption can have is enough for the library to refuse.
+const MOST_BYTES: usize = FIELD + 1;
+
+/// The caption that the options give, or standard input.
+pub enum Source<'a> {
+    Empty,
+    Text(&'a OsStr),
+    File(&'a Path),
+}
+
+impl<'a> Source<'a> {
+    pub fn of(words: &Words<'a>) -> Result<Source<'a>, Failure> {
+        let (text, file) = (words.value("--text"), words.value("--file"));
+        match (text, file, words.has("--empty")) {
+            (None, None, true) => Ok(Source::Empty),
+            (Some(text), None, false) => Ok(Source::Text(text)),
+            (None, Some(name), false) => Ok(Source::File(Path::new(name))),
+            (None, None, false) => Ok(Source::File(Path::new("-"))),
+            _ => Err(Failure::Usage(
+                "one of --text, --file and --empty at most".to_string(),
+            )),
+        }
+    }
+
+    pub fn is_standard_input(&self) -> bool {
+        matches!(self, Source::File(path) if input::is_standard(path))
+    }
+
+    /// The caption's bytes. Where there are none, they were lost on their way
+    /// unless an empty caption is asked for.
+    pub fn bytes(&self) -> Result<Vec<u8>, Failure> {
+        let (bytes, name) = match self {
+            Source::Empty => return Ok(Vec::new()),
+            Source::Text(text) => (text.as_bytes().to_vec(), "--text".to_string()),
+            Source::File(path) => {
+                if self.is_standard_input() {
+                    prompt("type the caption; Ctrl-D twice ends it, Enter is part of it");
+                }
+                let input = input::of_file(path)?;
+                let name = input.name.clone();
+                (input.bytes(MOST_BYTES)?, name)
+            }
+        };
+        if bytes.is_empty() {
+            let message = format!("{name}: no caption; --empty writes one of no bytes");
+            return Err(Failure::NoInput(message));
+        }
+        Ok(bytes)
+    }
+}
+
+/// Tells somebody at a terminal what isn't seen there.
+pub fn hint_at_line_feed(caption: &[u8]) {
+    if caption.ends_with(b"\n") {
+        hint("the caption ends with a line feed, which is kept; printf '%s' gives none");
+    }
+}

@@ -1,0 +1,156 @@
+//! What a sheet holds, as text and as JSON. Both say what the library's own
+//! listing says.
+
+use crate::keys::Keys;
+use captions::{Refusal, FIELD};
+
+/// The library's listing, taken apart.
+pub struct Listing {
+    pub slots: usize,
+    key: u32,
+    last: u32,
+    /// Write number and length of each written slot.
+    marks: Vec<Option<(u32, u32)>>,
+}
+
+impl Listing {
+    /// None where the sheet is unfit.
+    pub fn of_sheet(sheet: &[u8]) -> Option<Listing> {
+        let listing = String::from_utf8(captions::list(sheet)).ok()?;
+        let mut lines = listing.lines();
+        let first: Vec<&str> = lines.next()?.split(' ').collect();
+        let ["slots", slots, "key", key, "last", last] = first[..] else {
+            return None;
+        };
+        let marks: Option<Vec<_>> = lines.map(mark_of_line).collect();
+        Some(Listing {
+            slots: slots.parse().ok()?,
+            key: key.parse().ok()?,
+            last: last.parse().ok()?,
+            marks: marks?,
+        })
+    }
+}
+
+/// The mark of a line such as `1 written 3 17`; the inner one is none for a
+/// blank slot.
+fn mark_of_line(line: &str) -> Option<Option<(u32, u32)>> {
+    let words: Vec<&str> = line.split(' ').collect();
+    match words[..] {
+        [_, "blank"] => Some(None),
+        [_, "written", write, length] => Some(Some((write.parse().ok()?, length.parse().ok()?))),
+        _ => None,
+    }
+}
+
+/// The listing as JSON. Every object has all its members; what isn't there is
+/// null.
+pub fn json(sheet: &[u8]) -> String {
+    let Some(listing) = Listing::of_sheet(sheet) else {
+        let header = r#"{"fit":false,"slots":null,"key":null,"last":null"#;
+        return with_list(header, Vec::new());
+    };
+    let (slots, key, last) = (listing.slots, listing.key, listing.last);
+    let header = format!(r#"{{"fit":true,"slots":{slots},"key":{key},"last":{last}"#);
+    let marks = listing.marks.iter().enumerate();
+    let slots = marks.map(|(slot, mark)| {
+        let state = if mark.is_some() { "written" } else { "blank" };
+        slot_json(slot, state, *mark)
+    });
+    with_list(&header, slots.collect())
+}
+
+fn slot_json(slot: usize, state: &str, mark: Option<(u32, u32)>) -> String {
+    let (write, length) = match mark {
+        Some((write, length)) => (write.to_string(), length.to_string()),
+        None => ("null".to_string(), "null".to_string()),
+    };
+    format!(r#"{{"slot":{slot},"state":"{state}","write":{write},"length":{length}}}"#)
+}
+
+/// An object with the member `list` as its last, each slot on a line.
+fn with_list(header: &str, slots: Vec<String>) -> String {
+    format!("{header},\"list\":[\n{}\n]}}\n", slots.join(",\n"))
+}
+
+/// What a slot is to whoever has the keys.
+#[derive(Clone, Copy, PartialEq, Eq)]
+pub enum State {
+    Sound(usize),
+    Blank,
+    Altered,
+}
+
+/// A sheet of which every slot was read.
+pub struct Verified {
+    listing: Listing,
+    states: Vec<State>,
+}
+
+impl Verified {
+    pub fn of_sheet(sheet: &[u8], keys: &Keys) -> Result<Verified, Refusal> {
+        let mut states = Vec::new();
+        let mut window = [0; FIELD];
+        // Slot 0 is read in any case, by which an unfit sheet is refused.
+        let listing = Listing::of_sheet(sheet);
+        let slots = listing.as_ref().map_or(1, |listing| listing.slots);
+        for slot in 0..slots {
+            let read = captions::read(&keys.sealing, &keys.checking, sheet, slot, &mut window);
+            states.push(match read {
+                Ok(length) => State::Sound(length),
+                Err(Refusal::Blank) => State::Blank,
+                Err(Refusal::Altered) => State::Altered,
+                Err(refusal) => return Err(refusal),
+            });
+        }
+        let listing = listing.ok_or(Refusal::UnfitSheet)?;
+        Ok(Verified { listing, states })
+    }
+
+    fn count(&self, wanted: impl Fn(&State) -> bool) -> usize {
+        self.states.iter().filter(|state| wanted(state)).count()
+    }
+
+    /// How many slots are sound, blank and altered.
+    fn counts(&self) -> [usize; 3] {
+        [
+            self.count(|state| matches!(state, State::Sound(_))),
+            self.count(|state| *state == State::Blank),
+            self.altered(),
+        ]
+    }
+
+    pub fn altered(&self) -> usize {
+        self.count(|state| *state == State::Altered)
+    }
+
+    pub fn text(&self) -> String {
+        let mut report = String::new();
+        for (slot, state) in self.states.iter().enumerate() {
+            report += &match state {
+                State::Sound(length) => format!("{slot} sound {length}\n"),
+                State::Blank => format!("{slot} blank\n"),
+                State::Altered => format!("{slot} altered\n"),
+            };
+        }
+        let (slots, [sound, blank, altered]) = (self.states.len(), self.counts());
+        report + &format!("slots {slots} sound {sound} blank {blank} altered {altered}\n")
+    }
+
+    pub fn json(&self) -> String {
+        let Listing {
+            slots, key, last, ..
+        } = self.listing;
+        let [sound, blank, altered] = self.counts();
+        let header = format!(
+            r#"{{"slots":{slots},"key":{key},"last":{last},"sound":{sound},"blank":{blank},"altered":{altered}"#
+        );
+        let states = self.states.iter().zip(&self.listing.marks).enumerate();
+        let slots = states.map(|(slot, (state, mark))| match state {
+            State::Sound(_) => slot_json(slot, "sound", *mark),
+            State::Blank => slot_json(slot, "blank", None),
+            State::Altered => slot_json(slot, "altered", None),
+        });
+        with_list(&header, slots.collect())
+    }
+}

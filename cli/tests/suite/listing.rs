@@ -1,0 +1,97 @@
+//! The listing and the verification as JSON.
+
+use crate::support::*;
+use crate::words;
+use std::fs;
+
+#[test]
+fn a_listing_as_json() {
+    let scratch = Scratch::new();
+    let file = scratch.join("sheet");
+    let sheet = written(&blank_sheet(3, 8), 16, 1, b"Clock");
+    fs::write(&file, written(&sheet, 16, 2, b"")).unwrap();
+    run(&words!["list", file, "--json"]).printed(
+        br#"{"fit":true,"slots":3,"key":128,"last":2,"list":[
+{"slot":0,"state":"blank","write":null,"length":null},
+{"slot":1,"state":"written","write":1,"length":5},
+{"slot":2,"state":"written","write":2,"length":0}
+]}
+"#,
+    );
+    fs::write(&file, "not a sheet").unwrap();
+    run(&words!["list", "--json", file]).printed(
+        br#"{"fit":false,"slots":null,"key":null,"last":null,"list":[
+
+]}
+"#,
+    );
+}
+
+#[test]
+fn a_verification_as_json() {
+    let scratch = Scratch::new();
+    let (file, keys) = (scratch.join("sheet"), scratch.keys(8));
+    let sheet = written(&blank_sheet(3, 4), 8, 1, b"Clock");
+    let mut sheet = written(&sheet, 8, 2, b"Vase");
+    fs::write(&file, &sheet).unwrap();
+    run(&words!["verify", file, keys, "--json"]).printed(
+        br#"{"slots":3,"key":64,"last":2,"sound":2,"blank":1,"altered":0,"list":[
+{"slot":0,"state":"blank","write":null,"length":null},
+{"slot":1,"state":"sound","write":1,"length":5},
+{"slot":2,"state":"sound","write":2,"length":4}
+]}
+"#,
+    );
+    sheet[8 + 16 * 3 + 192] ^= 1;
+    fs::write(&file, &sheet).unwrap();
+    let run = run(&words!["verify", file, keys, "--json"]);
+    assert_eq!((run.status, run.stderr.as_str()), (10, "10 altered\n"));
+    assert_eq!(
+        String::from_utf8(run.stdout).unwrap(),
+        r#"{"slots":3,"key":64,"last":2,"sound":1,"blank":1,"altered":1,"list":[
+{"slot":0,"state":"blank","write":null,"length":null},
+{"slot":1,"state":"altered","write":null,"length":null},
+{"slot":2,"state":"sound","write":2,"length":4}
+]}
+"#
+    );
+}
+
+/// Every field of the text is in the JSON, for sheets of every size and class.
+#[test]
+fn json_says_what_the_text_says() {
+    let scratch = Scratch::new();
+    let file = scratch.join("sheet");
+    let mut random = Random(64);
+    for (slots, words) in [(1, 4), (2, 6), (17, 8), (255, 4), (256, 8)] {
+        let mut sheet = blank_sheet(slots, words);
+        for _ in 0..slots / 2 {
+            let slot = random.below(slots as u64) as usize;
+            let length = random.below(193) as usize;
+            sheet = written(&sheet, 2 * words, slot, &vec![b'x'; length]);
+        }
+        fs::write(&file, &sheet).unwrap();
+        let json = String::from_utf8(run(&words!["list", file, "--json"]).stdout).unwrap();
+        let keys = scratch.keys(2 * words);
+        let verified = run(&words!["verify", file, keys, "--json"]);
+        let verified = String::from_utf8(verified.stdout).unwrap();
+        let plain = |line: &str| {
+            let line = line.replace("\"slot\":", "").replace("\"state\":", "");
+            let line = line.replace("\"write\":", "").replace("\"length\":", "");
+            let words = line.trim_end_matches(',').trim_matches(['{', '}']);
+            let words = words.replace(",null,null", "");
+            words.replace('"', "").replace(',', " ")
+        };
+        let listing = reference::listing(&sheet);
+        let listing = String::from_utf8(listing).unwrap();
+        let lines: Vec<&str> = listing.lines().collect();
+        let marks: Vec<String> = json.lines().map(plain).collect();
+        assert_eq!(marks[1..marks.len() - 1], lines[1..]);
+        let marks: Vec<String> = verified.lines().map(plain).collect();
+        let sound: Vec<String> = lines[1..]
+            .iter()
+            .map(|line| line.replace("written", "sound"))
+            .collect();
+        assert_eq!(marks[1..marks.len() - 1], sound);
+    }
+}

@@ -1,0 +1,357 @@
+-- Demand 1, of the calls on a sheet, holds.
+use Prim.Native.Nat.{ℕ, zero, suc, _+_, _-_, _*_, _≤_}
+use mathlib.Core.Path.{_≡_, refl, sym, ap, _∙_}
+use mathlib.Core.Bool.{Bool, true, false, not, _||_, false≢true}
+use mathlib.Core.List.{List, [], _∷_, _++_}
+use mathlib.Core.Logic.{_⊎_, inl, inr}
+use native.Mathlib.Omega.{arith}
+use lib.Dec.{eqb, lit≤}
+use lib.ListN.{length, getD, drop, replicate}
+use lib.Seq.{getD-drop}
+use borrow.Author.Tests.{eqb-true, leb-false, not-true, not-false}
+use Rattle.octets.specs.Bytes.{number, zeros, allZero, same, allBelow, be}
+use Rattle.octets.specs.Outcome.{decided}
+use Rattle.octets.specs.Clauses.{Answers, Exactly, Each, none, and}
+use Rattle.octets.proofs.Clauses.{Reflects, reflects-not, reflects-and, reflects-as, reflects-eqb, reflects-leb, reflects-ltb, reflects-same, Means, Refuses, decided-exactly, decided-refused, decided-zero}
+use Rattle.octets.proofs.Compare.{same-is, same-eq}
+use Rattle.octets.proofs.Zeros.{allZero-is, getD-zeros}
+use Rattle.cipher.specs.Key.{mcryptonClass, classKnown, keyBytes, sheetKeyLength}
+use Rattle.layout.specs.Layout.{Edition, newEdition, editionOf, rule1, slots, keyClass, editionByte, lastWrite, slotCount, sheetSize, markAt, fieldAt, markNumber, markLength, markCheck, mark, field, blankSlot, fitSlot, fitIn, fit, blankSheet}
+use Rattle.layout.specs.Rules.{MeetsLayout}
+use Rattle.layout.proofs.Fits.{fit-rules}
+use Rattle.layout.proofs.Meaning.{reflects-fit, reflects-blank, reflects-words}
+use Rattle.captions.specs.Answers.{Outcome, answerNumber, answerLength, outcome}
+use Rattle.captions.specs.Captions.{Keys, pair, Ciphers, loadedFor, checkOf, opened, altered}
+use Rattle.captions.specs.Calls.{wrongKeys, otherClass, keyTests, captionTests, classTests, sheetTests, windowTests, openTests, writeTests, clearTests, readTests, blankTests, writingWith, clearingWith, readingWith, writing, clearing, reading, blanking}
+use Rattle.captions.specs.Refusals.{KeyLength, eight, twelve, sixteen, RightKeys, IsAltered, check-differs, byte-left, writeClauses, clearClauses, readClauses, blankClauses, Leaves, WriteOf, ClearOf, ReadOf, BlankOf, SheetRefusals}
+use Rattle.captions.specs.declared.Answer.{Answer}
+use Rattle.captions.specs.declared.Answer.the-variants.{Accepted, WrongKey, TwinKeys, WrongSpan, UnfitSheet, OtherKeyClass, NoSuchSlot, Overlong, Worn, Blank, Altered}
+
+-- ---- the keys
+
+length-right : {n : ℕ} → KeyLength n → sheetKeyLength n ≡ true
+unfolding sheetKeyLength
+length-right eight = refl
+length-right twelve = refl
+length-right sixteen = refl
+
+reflects-length : (n : ℕ) → Reflects (sheetKeyLength n) (KeyLength n)
+unfolding sheetKeyLength
+reflects-length n = record { holds = go (eqb n 8) (eqb n 12) (eqb n 16) refl refl refl; fails = λ e h. false≢true (sym e ∙ (unfold sheetKeyLength in length-right h)) }
+  where
+    go : (x y z : Bool) → eqb n 8 ≡ x → eqb n 12 ≡ y → eqb n 16 ≡ z → (x || (y || z)) ≡ true → KeyLength n
+    go true y z p q r h = rw (eqb-true n 8 p) eight
+    go false true z p q r h = rw (eqb-true n 12 q) twelve
+    go false false z p q r h = rw (eqb-true n 16 (r ∙ h)) sixteen
+
+reflects-keys : (k : Keys) → Reflects (wrongKeys k) (RightKeys k → ⊥)
+unfolding wrongKeys
+reflects-keys k =
+    reflects-not
+    (reflects-as (λ h. record { sealing = h .0; checking = h .1 .0; alike = h .1 .1 }) (λ r. (r .sealing, (r .checking, r .alike)))
+    (reflects-and (reflects-length (length (k .sealing))) (reflects-and (reflects-length (length (k .checking))) (reflects-eqb (length (k .sealing)) (length (k .checking))))))
+
+-- ---- the sheet and the slot
+
+reflects-unfit : (s : List ℕ) → Reflects (not (fitIn (editionOf s) s)) (MeetsLayout s → ⊥)
+unfolding fit
+reflects-unfit s = reflects-not (reflects-fit s)
+
+reflects-class : (k : Keys) (s : List ℕ) → Reflects (otherClass k s) (length (k .sealing) ≡ keyBytes (keyClass s) → ⊥)
+unfolding otherClass
+reflects-class k s = reflects-not (reflects-eqb (length (k .sealing)) (keyBytes (keyClass s)))
+
+-- a byte that isn't zero, where not all are
+record Left (v : List ℕ) (n : ℕ) : Type 0 where
+  place : ℕ
+  past : n ≤ place
+  not-zero : getD v place 0 ≡ 0 → ⊥
+
+left-byte : (v : List ℕ) → allZero v ≡ false → Left v 0
+unfolding allZero
+left-byte [] h = absurd (false≢true (sym h))
+left-byte (zero ∷ v) h = let l = left-byte v h in record { place = suc (l .place); past = omega arith; not-zero = l .not-zero }
+left-byte (suc x ∷ v) h = record { place = 0; past = omega arith; not-zero = λ e. omega (arith, e) }
+
+left-past : (v : List ℕ) (n : ℕ) → allZero (drop n v) ≡ false → Left v n
+left-past v n h =
+    let l = left-byte (drop n v) h in
+    record { place = n + l .place; past = omega arith; not-zero = λ e. l .not-zero (getD-drop n v (l .place) 0 ∙ e) }
+
+zero-past : (v : List ℕ) (n j : ℕ) → allZero (drop n v) ≡ true → n ≤ j → getD v j 0 ≡ 0
+zero-past v n j h l =
+    let q : n + (j - n) ≡ j = omega arith in
+    sym (ap (λ (m : ℕ). getD v m 0) q)
+    ∙ sym (getD-drop n v (j - n) 0)
+    ∙ ap (λ (u : List ℕ). getD u (j - n) 0) (allZero-is (drop n v) h)
+    ∙ getD-zeros (length (drop n v)) (j - n)
+
+reflects-or : {a b : Bool} {P Q : Type 0} → Reflects a P → Reflects b Q → Reflects (a || b) (P ⊎ Q)
+reflects-or {a = true} r q = record { holds = λ e. inl (r .holds refl); fails = λ e h. false≢true (sym e) }
+reflects-or {a = false} {b} {P} {Q} r q = record { holds = λ e. inr (q .holds e); fails = fails }
+  where
+    fails : b ≡ false → P ⊎ Q → ⊥
+    fails e (inl h) = r .fails refl h
+    fails e (inr h) = q .fails e h
+
+reflects-left : (v : List ℕ) (n : ℕ) → Reflects (not (allZero (drop n v))) (Left v n)
+reflects-left v n = record { holds = λ e. left-past v n (not-true _ e); fails = λ e l. l .not-zero (zero-past v n (l .place) (not-false _ e) (l .past)) }
+
+reflects-altered : (x : Ciphers) (e : Edition) (s : List ℕ) (i : ℕ) → Reflects (altered x e s i) (IsAltered x e s i)
+unfolding altered
+reflects-altered x e s i = reflects-as into from (reflects-or (reflects-not (reflects-same _ _)) (reflects-left (opened x e s i) (markLength (mark e s i))))
+  where
+    into : (checkOf x (markNumber (mark e s i)) i (markLength (mark e s i)) (field e s i) ≡ markCheck (mark e s i) → ⊥) ⊎ Left (opened x e s i) (markLength (mark e s i)) → IsAltered x e s i
+    into (inl d) = check-differs d
+    into (inr l) = byte-left (l .place) (l .past) (l .not-zero)
+
+    from : IsAltered x e s i → (checkOf x (markNumber (mark e s i)) i (markLength (mark e s i)) (field e s i) ≡ markCheck (mark e s i) → ⊥) ⊎ Left (opened x e s i) (markLength (mark e s i))
+    from (check-differs d) = inl d
+    from (byte-left j l d) = inr (record { place = j; past = l; not-zero = d })
+
+-- ---- the tables mean the clauses
+
+write-means : (k : Keys) (s : List ℕ) (i : ℕ) (c : List ℕ) → Means answerNumber (writeTests (editionOf s) (loadedFor (keyClass s) k) k s i c) (writeClauses k s i c)
+unfolding Means writeTests keyTests sheetTests classTests captionTests writeClauses answerNumber
+write-means k s i c = (
+  reflects-keys k,
+  refl,
+  λ t₁. (
+    reflects-same (k .sealing) (k .checking),
+    refl,
+    λ t₂. (
+      reflects-unfit s,
+      refl,
+      λ t₄. (
+        reflects-class k s,
+        refl,
+        λ t₅. (
+          reflects-leb (slots s) i,
+          refl,
+          λ t₆. (
+            reflects-ltb 192 (length c),
+            refl,
+            λ t₇.
+                (reflects-eqb (lastWrite s) 4294967295, refl, λ t₈. tt),
+          ),
+        ),
+      ),
+    ),
+  ),
+)
+
+clear-means : (s : List ℕ) (i : ℕ) → Means answerNumber (clearTests (editionOf s) s i) (clearClauses s i)
+unfolding Means clearTests clearClauses answerNumber
+clear-means s i = (reflects-unfit s, refl, λ t₄. (reflects-leb (slots s) i, refl, λ t₆. tt))
+
+read-means : (k : Keys) (s : List ℕ) (i : ℕ) (window : List ℕ) → Means answerNumber (readTests (editionOf s) (loadedFor (keyClass s) k) k s i window) (readClauses k s i window)
+unfolding Means readTests openTests windowTests keyTests sheetTests classTests readClauses answerNumber
+read-means k s i window = (
+  reflects-keys k,
+  refl,
+  λ t₁. (
+    reflects-same (k .sealing) (k .checking),
+    refl,
+    λ t₂. (
+      reflects-not (reflects-eqb (length window) 192),
+      refl,
+      λ t₃. (
+        reflects-unfit s,
+        refl,
+        λ t₄. (
+          reflects-class k s,
+          refl,
+          λ t₅. (
+            reflects-leb (slots s) i,
+            refl,
+            λ t₆. (
+              reflects-blank (editionOf s) s (fit-rules (editionOf s) s (not-false _ t₄)) i (leb-false (slots s) i t₆),
+              refl,
+              λ t₉.
+                  (reflects-altered (loadedFor (keyClass s) k) (editionOf s) s i, refl, λ t₁₀. tt),
+            ),
+          ),
+        ),
+      ),
+    ),
+  ),
+)
+
+blank-means : (s : List ℕ) (n t : ℕ) → Means answerNumber (blankTests s n t) (blankClauses s n t)
+unfolding Means blankTests blankClauses answerNumber classKnown slotCount sheetSize
+blank-means s n t = (
+  reflects-not (reflects-words t),
+  refl,
+  λ t₁. (
+    reflects-not
+        (reflects-as (λ h. record { from-1 = h .0 .0; to-256 = h .0 .1; size = h .1 }) (λ b. ((b .from-1, b .to-256), b .size))
+        (reflects-and (reflects-and (reflects-leb 1 n) (reflects-leb n 256)) (reflects-eqb (length s) (newEdition .header + 208 * n)))),
+    refl,
+    λ t₃. tt,
+  ),
+)
+
+-- ---- a refusal
+
+refusal-length : (a : Answer) → (answerNumber a ≡ 0 → ⊥) → answerLength a ≡ 0
+unfolding answerNumber answerLength
+refusal-length (Accepted n) h = absurd (h refl)
+refusal-length WrongKey h = refl
+refusal-length TwinKeys h = refl
+refusal-length WrongSpan h = refl
+refusal-length UnfitSheet h = refl
+refusal-length OtherKeyClass h = refl
+refusal-length NoSuchSlot h = refl
+refusal-length Overlong h = refl
+refusal-length Worn h = refl
+refusal-length Blank h = refl
+refusal-length Altered h = refl
+
+leaves : (a : Answer) (bytes : List ℕ) → (answerNumber a ≡ 0 → ⊥) → Leaves (outcome a bytes) bytes
+unfolding outcome
+leaves a bytes h = record { len = refusal-length a h; bytes-are = refl }
+
+module _ (k : Keys) (s : List ℕ) (i : ℕ) where
+  module _ (c : List ℕ) where
+    write-exactly : Exactly ((writing k s i c) .number) (writeClauses k s i c)
+    unfolding writing writingWith outcome answerNumber
+    write-exactly = decided-exactly answerNumber (λ (o : Outcome). o .number) _ _ refl (λ a. refl) _ _ (write-means k s i c)
+
+    write-refused : ((writing k s i c) .number ≡ 0 → ⊥) → Leaves (writing k s i c) s
+    unfolding writing writingWith outcome answerNumber
+    write-refused = decided-refused answerNumber (λ (o : Outcome). o .number) _ _ refl (λ a. refl) (λ o. Leaves o s) (λ a. leaves a s) _
+
+  module _ (window : List ℕ) where
+    read-exactly : Exactly ((reading k s i window) .number) (readClauses k s i window)
+    unfolding reading readingWith outcome answerNumber
+    read-exactly = decided-exactly answerNumber (λ (o : Outcome). o .number) _ _ refl (λ a. refl) _ _ (read-means k s i window)
+
+    read-refused : ((reading k s i window) .number ≡ 0 → ⊥) → Leaves (reading k s i window) (zeros (length window))
+    unfolding reading readingWith outcome answerNumber
+    read-refused = decided-refused answerNumber (λ (o : Outcome). o .number) _ _ refl (λ a. refl) (λ o. Leaves o (zeros (length window))) (λ a. leaves a (zeros (length window))) _
+
+module _ (s : List ℕ) (i : ℕ) where
+  clear-exactly : Exactly ((clearing s i) .number) (clearClauses s i)
+  unfolding clearing clearingWith outcome answerNumber
+  clear-exactly = decided-exactly answerNumber (λ (o : Outcome). o .number) _ _ refl (λ a. refl) _ _ (clear-means s i)
+
+  clear-refused : ((clearing s i) .number ≡ 0 → ⊥) → Leaves (clearing s i) s
+  unfolding clearing clearingWith outcome answerNumber
+  clear-refused = decided-refused answerNumber (λ (o : Outcome). o .number) _ _ refl (λ a. refl) (λ o. Leaves o s) (λ a. leaves a s) _
+
+module _ (s : List ℕ) (n t : ℕ) where
+  blank-exactly : Exactly ((blanking s n t) .number) (blankClauses s n t)
+  unfolding blanking outcome answerNumber
+  blank-exactly = decided-exactly answerNumber (λ (o : Outcome). o .number) _ _ refl (λ a. refl) _ _ (blank-means s n t)
+
+  blank-refused : ((blanking s n t) .number ≡ 0 → ⊥) → Leaves (blanking s n t) s
+  unfolding blanking outcome answerNumber
+  blank-refused = decided-refused answerNumber (λ (o : Outcome). o .number) _ _ refl (λ a. refl) (λ o. Leaves o s) (λ a. leaves a s) _
+
+  blank-accepted : (blanking s n t) .number ≡ 0 → Leaves (blanking s n t) (blankSheet n t)
+  unfolding blanking blankTests outcome answerNumber answerLength Refuses
+  blank-accepted =
+      decided-zero answerNumber (λ (o : Outcome). o .number) _ _ refl (λ a. refl) (λ o. Leaves o (blankSheet n t)) (record { len = refl; bytes-are = refl }) _
+      (λ e. omega (arith, e), ((λ e. omega (arith, e)), tt))
+
+-- ---- each number is met: keys of zeros and ones, a sheet of one slot, and the same worn
+
+-- the first write number and the count of slots as they stand in a header of edition 1
+sheet-with : ℕ → List ℕ
+sheet-with w = 0 ∷ 1 ∷ 4 ∷ 1 ∷ (be 4 w ++ zeros 208)
+
+keys-of : ℕ → Keys
+keys-of n = pair (zeros n) (replicate n 1)
+
+every-write : Each WriteOf (0 ∷ 1 ∷ 2 ∷ 4 ∷ 5 ∷ 6 ∷ 7 ∷ 8 ∷ [])
+unfolding sheet-with keys-of writing writingWith writeTests keyTests sheetTests classTests captionTests decided outcome answerNumber wrongKeys otherClass sheetKeyLength keyBytes mcryptonClass same number zeros be allZero allBelow slots keyClass editionByte lastWrite rule1 editionOf sheetSize markAt fieldAt slotCount mark field blankSlot fitSlot fitIn
+every-write =
+    and (record { keys = keys-of 8; sheet = sheet-with 0; slot = 0; caption = []; answers = refl })
+    (and (record { keys = keys-of 7; sheet = []; slot = 0; caption = []; answers = refl })
+    (and (record { keys = pair (zeros 8) (zeros 8); sheet = []; slot = 0; caption = []; answers = refl })
+    (and (record { keys = keys-of 8; sheet = []; slot = 0; caption = []; answers = refl })
+    (and (record { keys = keys-of 12; sheet = sheet-with 0; slot = 0; caption = []; answers = refl })
+    (and (record { keys = keys-of 8; sheet = sheet-with 0; slot = 1; caption = []; answers = refl })
+    (and (record { keys = keys-of 8; sheet = sheet-with 0; slot = 0; caption = zeros 193; answers = refl })
+    (and (record { keys = keys-of 8; sheet = sheet-with 4294967295; slot = 0; caption = []; answers = refl })
+    none)))))))
+
+every-clear : Each ClearOf (0 ∷ 4 ∷ 6 ∷ [])
+unfolding sheet-with clearing clearingWith clearTests decided outcome answerNumber number zeros be allZero allBelow slots keyClass editionByte lastWrite rule1 mcryptonClass editionOf sheetSize markAt fieldAt slotCount mark field blankSlot fitSlot fitIn
+every-clear =
+    and (record { sheet = sheet-with 0; slot = 0; answers = refl })
+    (and (record { sheet = []; slot = 0; answers = refl })
+    (and (record { sheet = sheet-with 0; slot = 1; answers = refl })
+    none))
+
+every-read : Each ReadOf (1 ∷ 2 ∷ 3 ∷ 4 ∷ 5 ∷ 6 ∷ 9 ∷ [])
+unfolding sheet-with keys-of reading readingWith readTests openTests windowTests keyTests sheetTests classTests decided outcome answerNumber wrongKeys otherClass sheetKeyLength keyBytes same number zeros be allZero allBelow slots keyClass editionByte lastWrite rule1 mcryptonClass editionOf sheetSize markAt fieldAt slotCount mark field blankSlot fitSlot fitIn
+every-read =
+    and (record { keys = keys-of 7; sheet = []; slot = 0; window = []; answers = refl })
+    (and (record { keys = pair (zeros 8) (zeros 8); sheet = []; slot = 0; window = []; answers = refl })
+    (and (record { keys = keys-of 8; sheet = []; slot = 0; window = zeros 191; answers = refl })
+    (and (record { keys = keys-of 8; sheet = []; slot = 0; window = zeros 192; answers = refl })
+    (and (record { keys = keys-of 12; sheet = sheet-with 0; slot = 0; window = zeros 192; answers = refl })
+    (and (record { keys = keys-of 8; sheet = sheet-with 0; slot = 1; window = zeros 192; answers = refl })
+    (and (record { keys = keys-of 8; sheet = sheet-with 0; slot = 0; window = zeros 192; answers = refl })
+    none))))))
+
+every-blank : Each BlankOf (0 ∷ 1 ∷ 3 ∷ [])
+unfolding blanking blankTests decided outcome answerNumber classKnown mcryptonClass slotCount sheetSize zeros
+every-blank =
+    and (record { sheet = zeros 216; count = 1; words = 4; answers = refl })
+    (and (record { sheet = zeros 216; count = 1; words = 5; answers = refl })
+    (and (record { sheet = zeros 215; count = 1; words = 4; answers = refl })
+    none))
+
+-- ---- the check
+
+-- a call that answers 0 met no clause
+past : {P Q : Type 0} (m : ℕ) → 1 ≤ m → (P × (0 ≡ m)) ⊎ ((P → ⊥) × Q) → (P → ⊥) × Q
+past m l (inl h) = absurd (omega (arith, h .1))
+past m l (inr h) = h
+
+accepted-unaltered : (k : Keys) (s : List ℕ) (i : ℕ) (window : List ℕ) → (reading k s i window) .number ≡ 0 → IsAltered (loadedFor (keyClass s) k) (editionOf s) s i → ⊥
+unfolding Answers readClauses
+accepted-unaltered k s i window h =
+    let a₁ = past 1 (lit≤ tt) ((read-exactly k s i window) .answers 0 .0 h) in
+    let a₂ = past 2 (lit≤ tt) (a₁ .1) in
+    let a₃ = past 3 (lit≤ tt) (a₂ .1) in
+    let a₄ = past 4 (lit≤ tt) (a₃ .1) in
+    let a₅ = past 5 (lit≤ tt) (a₄ .1) in
+    let a₆ = past 6 (lit≤ tt) (a₅ .1) in
+    let a₉ = past 9 (lit≤ tt) (a₆ .1) in
+    (past 10 (lit≤ tt) (a₉ .1)) .0
+
+-- an accepted read found the stored check to be that of the field
+check-found : (k : Keys) (s : List ℕ) (i : ℕ) (window : List ℕ) → (reading k s i window) .number ≡ 0
+    → checkOf (loadedFor (keyClass s) k) (markNumber (mark (editionOf s) s i)) i (markLength (mark (editionOf s) s i)) (field (editionOf s) s i)
+    ≡ markCheck (mark (editionOf s) s i)
+check-found k s i window h = go _ refl
+  where
+    check : List ℕ
+    check = checkOf (loadedFor (keyClass s) k) (markNumber (mark (editionOf s) s i)) i (markLength (mark (editionOf s) s i)) (field (editionOf s) s i)
+
+    go : (b : Bool) → same check (markCheck (mark (editionOf s) s i)) ≡ b → check ≡ markCheck (mark (editionOf s) s i)
+    go true q = same-is _ _ q
+    go false q = absurd (accepted-unaltered k s i window h (check-differs (λ d. false≢true (sym q ∙ same-eq _ _ d))))
+
+pub sheet-refusals : SheetRefusals
+sheet-refusals =
+    record {
+      write = write-exactly;
+      clear = clear-exactly;
+      read = read-exactly;
+      blank = blank-exactly;
+      refused-write = write-refused;
+      refused-clear = clear-refused;
+      refused-read = read-refused;
+      refused-blank = blank-refused;
+      accepted-blank = blank-accepted;
+      writes = every-write;
+      clears = every-clear;
+      reads = every-read;
+      blanks = every-blank;
+      checks = λ k s s′ i window c n l f h g.
+          sym (check-found k s i window h) ∙ rw (c, n, l, f) (check-found k s′ i window g);
+    }

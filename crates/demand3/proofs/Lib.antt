@@ -1,4 +1,0 @@
-pub mod Ciphers
-pub mod Demand2
-pub mod Demand3
-pub mod Premises

@@ -1,2 +1,0 @@
-pub mod Demand2
-pub mod Demand3

@@ -1,1 +1,0 @@
-// No code: what holds of whole lists of calls on a sheet is stated in specs/ and proved in proofs/.

@@ -1,0 +1,54 @@
+-- The cipher of demands 2 and 3: mCrypton by path numbers, for every key class, and the calls of write and read with it.
+use Prim.Native.Nat.{ℕ}
+use mathlib.Core.Path.{_≡_}
+use mathlib.Core.Bool.{true}
+use mathlib.Core.List.{List}
+use Rattle.schedule.specs.Schedule.{Count}
+use Rattle.mcrypton.specs.Cipher.{encryptBlock, decryptBlock}
+use Rattle.mcrypton.specs.Bytes.{wordsOf, bytesOf}
+use Rattle.mcrypton.specs.Vectors.{BlockVectors}
+use Rattle.cipher.specs.Key.{encryptBy, decryptBy}
+use Rattle.layout.specs.Layout.{editionOf, keyClass, fit}
+use Rattle.captions.specs.Answers.{Outcome}
+use Rattle.captions.specs.Captions.{Keys, Ciphers}
+use Rattle.captions.specs.Calls.{writingWith, readingWith, writing, reading}
+
+-- the cipher of a key class: p is the path number of encryption, q that of decryption
+unfoldable pub byPaths : ℕ → ℕ → ℕ → Keys → Ciphers
+byPaths class p q k =
+    record {
+      E = encryptBy class p (k .sealing);
+      D = decryptBy class q (k .sealing);
+      M = encryptBy class p (k .checking);
+    }
+
+-- a write that encrypts by p; a read that makes start blocks and checks by p, and opens blocks by q
+unfoldable pub writingBy : ℕ → Keys → List ℕ → ℕ → List ℕ → Outcome
+writingBy p k s i c = writingWith (editionOf s) (byPaths (keyClass s) p p k) k s i c
+
+unfoldable pub readingBy : ℕ → ℕ → Keys → List ℕ → ℕ → List ℕ → Outcome
+readingBy p q k s i window = readingWith (editionOf s) (byPaths (keyClass s) p q k) k s i window
+
+-- ---- what both demands say of them
+
+-- a key class means mCrypton, the block cipher of demand 3's first half on bytes: E and D under the sealing key, M under the checking key
+pub record ByMcrypton (class : ℕ) : Type 0 where
+  pub seals : (p q : ℕ) (k : Keys) (b : List ℕ) → (byPaths class p q k) .E b ≡ bytesOf (encryptBlock p (wordsOf (k .sealing)) (wordsOf b))
+  pub opens : (p q : ℕ) (k : Keys) (b : List ℕ) → (byPaths class p q k) .D b ≡ bytesOf (decryptBlock q (wordsOf (k .sealing)) (wordsOf b))
+  pub checks : (p q : ℕ) (k : Keys) (b : List ℕ) → (byPaths class p q k) .M b ≡ bytesOf (encryptBlock p (wordsOf (k .checking)) (wordsOf b))
+
+-- every key class does, and a sheet that meets the layout is of one of them
+pub record ClassesByMcrypton : Type 0 where
+  pub class-4 : ByMcrypton 4
+  pub class-6 : ByMcrypton 6
+  pub class-8 : ByMcrypton 8
+  pub no-other : (s : List ℕ) → fit s ≡ true → Count (keyClass s)
+  -- and what comes out of it, on a block for each key size
+  pub vectors : BlockVectors
+
+-- the definitions that the contracts of write and read cite are these, by any path numbers
+abbrev pub CodeWrites : Type 0
+CodeWrites = (p : ℕ) (k : Keys) (s : List ℕ) (i : ℕ) (c : List ℕ) → writingBy p k s i c ≡ writing k s i c
+
+abbrev pub CodeReads : Type 0
+CodeReads = (p q : ℕ) (k : Keys) (s : List ℕ) (i : ℕ) (window : List ℕ) → readingBy p q k s i window ≡ reading k s i window

@@ -1,0 +1,133 @@
+-- The tests of the layout mean its rules.
+use Prim.Native.Nat.{ℕ, _<_}
+use mathlib.Core.Path.{_≡_, refl, sym, ap, _∙_}
+use mathlib.Core.Bool.{Bool, true, false, _&&_, _||_, false≢true}
+use mathlib.Core.List.{List}
+use mathlib.Core.Logic.{_⊎_, inl, inr}
+use native.Mathlib.Omega.{arith}
+use lib.Dec.{eqb}
+use lib.ListN.{length}
+use borrow.Author.Tests.{eqb-true, eq-eqb}
+use Rattle.octets.specs.Bytes.{zeros, part, allZero}
+use Rattle.octets.proofs.Bool.{and-left, and-right, and-both}
+use Rattle.octets.proofs.Clauses.{Reflects}
+use Rattle.octets.proofs.Parts.{length-part}
+use Rattle.octets.proofs.Zeros.{allZero-zeros, allZero-is}
+use Rattle.cipher.specs.Key.{mcryptonClass}
+use Rattle.cipher.proofs.Promise.{mcrypton-cases}
+use Rattle.layout.specs.Layout.{Edition, edition1, rule1, editionOf, editionByte, keyClass, slots, lastWrite, sheetSize, mark, field, writtenMark, blankSlot, fitSlot, fit}
+use Rattle.layout.specs.Rules.{Words, four, six, eight, IsBlank, IsWritten, MeetsLayout}
+use Rattle.layout.specs.Rules as Said
+use Rattle.layout.proofs.Header.{count-low, count-high, count-within}
+use Rattle.layout.proofs.Fits.{Rules, fit-rules, rules-fit, mark-written, written-mark, length-mark, length-field}
+
+-- ---- t
+
+pub words-known : {t : ℕ} → Words t → mcryptonClass t ≡ true
+unfolding mcryptonClass
+words-known four = refl
+words-known six = refl
+words-known eight = refl
+
+pub reflects-words : (t : ℕ) → Reflects (mcryptonClass t) (Words t)
+reflects-words t = record { holds = mcrypton-cases Words four six eight t; fails = λ e w. false≢true (sym e ∙ words-known w) }
+
+-- ---- a slot
+
+is-zeros : (s : List ℕ) (n : ℕ) → length s ≡ n → allZero s ≡ true → s ≡ zeros n
+is-zeros s n l h = allZero-is s h ∙ ap zeros l
+
+zeros-all : (s : List ℕ) (n : ℕ) → s ≡ zeros n → allZero s ≡ true
+zeros-all s n h = ap allZero h ∙ allZero-zeros n
+
+module _ (e : Edition) (s : List ℕ) (r : Rules e s) (i : ℕ) (l : i < slots s) where
+  pub reflects-blank : Reflects (blankSlot e s i) (IsBlank e s i)
+  unfolding blankSlot
+  reflects-blank =
+      record {
+        holds = λ h. record {
+          mark-zero = is-zeros (mark e s i) 16 (length-mark e s r i l) (and-left (allZero (mark e s i)) (allZero (field e s i)) h);
+          field-zero = is-zeros (field e s i) 192 (length-field e s r i l) (and-right (allZero (mark e s i)) (allZero (field e s i)) h);
+        };
+        fails = λ h b. false≢true (sym h ∙ blank b);
+      }
+    where
+      blank : IsBlank e s i → allZero (mark e s i) && allZero (field e s i) ≡ true
+      blank b = and-both (allZero (mark e s i)) (allZero (field e s i)) (zeros-all _ 16 (b .mark-zero)) (zeros-all _ 192 (b .field-zero))
+
+  is-written : writtenMark (lastWrite s) (mark e s i) ≡ true → IsWritten e s i
+  is-written h =
+      let w = mark-written (lastWrite s) (mark e s i) h in
+      record {
+        number-from-1 = w .positive;
+        number-to-w = w .at-most;
+        length-to-192 = w .short;
+        two-zeros = is-zeros (part (mark e s i) 6 2) 2 (length-part (mark e s i) 6 2 (omega (arith, length-mark e s r i l))) (w .pad);
+      }
+
+-- the test of a slot, without the rest of the sheet
+slot-fits : (e : Edition) (s : List ℕ) (i : ℕ) → IsBlank e s i ⊎ IsWritten e s i → fitSlot e s i ≡ true
+unfolding fitSlot blankSlot
+slot-fits e s i (inl b) = rw (zeros-all (mark e s i) 16 (b .mark-zero), zeros-all (field e s i) 192 (b .field-zero))
+slot-fits e s i (inr w) =
+    last (allZero (mark e s i) && allZero (field e s i)) (writtenMark (lastWrite s) (mark e s i))
+    (written-mark (lastWrite s) (mark e s i)
+    (record { positive = w .number-from-1; at-most = w .number-to-w; short = w .length-to-192; pad = zeros-all (part (mark e s i) 6 2) 2 (w .two-zeros) }))
+  where
+    last : (a b : Bool) → b ≡ true → a || b ≡ true
+    last true b h = refl
+    last false b h = h
+
+-- ---- the sheet
+
+slot-said : (e : Edition) (s : List ℕ) (r : Rules e s) (i : ℕ) → i < slots s → IsBlank e s i ⊎ IsWritten e s i
+slot-said e s r i l = go (blankSlot e s i) refl (unfold fitSlot in r .slot i l)
+  where
+    go : (b : Bool) → blankSlot e s i ≡ b → b || writtenMark (lastWrite s) (mark e s i) ≡ true → IsBlank e s i ⊎ IsWritten e s i
+    go true q h = inl (reflects-blank e s r i l .holds q)
+    go false q h = inr (is-written e s r i l h)
+
+said-rules : (e : Edition) (s : List ℕ) → Rules e s → Said.Rules e s
+unfolding sheetSize
+said-rules e s r =
+    record {
+      eight-bytes = r .long;
+      slots-from-1 = count-low (slots s) (r .count);
+      slots-to-256 = count-high (slots s) (r .count);
+      size = r .size;
+      slot = slot-said e s r;
+    }
+
+rules-said : (e : Edition) (s : List ℕ) → e .rule s ≡ true → Said.Rules e s → Rules e s
+unfolding sheetSize
+rules-said e s h r =
+    record {
+      long = r .eight-bytes;
+      count = count-within (slots s) (r .slots-from-1) (r .slots-to-256);
+      rule = h;
+      size = r .size;
+      slot = λ i l. slot-fits e s i (r .slot i l);
+    }
+
+-- a sheet is fit exactly if it meets the layout
+pub reflects-fit : (s : List ℕ) → Reflects (fit s) (MeetsLayout s)
+unfolding fit editionOf rule1
+reflects-fit s =
+    record {
+      holds = λ h.
+          let r = fit-rules edition1 s h in
+          record {
+            rules = said-rules edition1 s r;
+            header = record {
+              words = reflects-words (keyClass s) .holds (and-left (mcryptonClass (keyClass s)) (eqb (editionByte s) 1) (r .rule));
+              edition = eqb-true (editionByte s) 1 (and-right (mcryptonClass (keyClass s)) (eqb (editionByte s) 1) (r .rule));
+            };
+          };
+      fails = λ h m.
+          false≢true
+          (sym h
+          ∙ rules-fit edition1 s
+          (rules-said edition1 s
+          (and-both (mcryptonClass (keyClass s)) (eqb (editionByte s) 1) (words-known (m .header .words)) (eq-eqb (editionByte s) 1 (m .header .edition)))
+          (m .rules)));
+    }

@@ -1,0 +1,45 @@
+-- The layout of a sheet rule by rule, in document 01's words: the plain meaning of `fit`.
+use Prim.Native.Nat.{ℕ, _+_, _*_, _≤_, _<_}
+use mathlib.Core.Path.{_≡_}
+use mathlib.Core.List.{List}
+use mathlib.Core.Logic.{_⊎_}
+use lib.ListN.{length}
+use Rattle.octets.specs.Bytes.{zeros, part}
+use Rattle.layout.specs.Layout.{Edition, edition1, slots, keyClass, editionByte, lastWrite, markNumber, markLength, mark, field}
+
+-- t: 4, 6 or 8
+pub data Words : ℕ → Type 0 where
+  four : Words 4
+  six : Words 6
+  eight : Words 8
+
+module _ (e : Edition) where
+  -- a blank slot has all 208 bytes zero
+  pub record IsBlank (s : List ℕ) (i : ℕ) : Type 0 where
+    pub mark-zero : mark e s i ≡ zeros 16
+    pub field-zero : field e s i ≡ zeros 192
+
+  -- a written slot has a write number from 1 to w and a length from 0 to 192, and the mark's two zero bytes
+  pub record IsWritten (s : List ℕ) (i : ℕ) : Type 0 where
+    pub number-from-1 : 1 ≤ markNumber (mark e s i)
+    pub number-to-w : markNumber (mark e s i) ≤ lastWrite s
+    pub length-to-192 : markLength (mark e s i) ≤ 192
+    pub two-zeros : part (mark e s i) 6 2 ≡ zeros 2
+
+  -- what holds of a sheet of any edition
+  pub record Rules (s : List ℕ) : Type 0 where
+    pub eight-bytes : 8 ≤ length s
+    pub slots-from-1 : 1 ≤ slots s
+    pub slots-to-256 : slots s ≤ 256
+    pub size : length s ≡ e .header + 208 * slots s
+    -- every slot is one or the other
+    pub slot : (i : ℕ) → i < slots s → IsBlank s i ⊎ IsWritten s i
+
+-- what edition 1 adds
+pub record Edition1 (s : List ℕ) : Type 0 where
+  pub words : Words (keyClass s)
+  pub edition : editionByte s ≡ 1
+
+pub record MeetsLayout (s : List ℕ) : Type 0 where
+  pub rules : Rules edition1 s
+  pub header : Edition1 s

@@ -1,9 +1,0 @@
-use borrow.Author.Needs.{needs}
-use Rattle.rounds.proofs.sub_word.Statement.{statement}
-use Rattle.rounds.proofs.sub_word.Tie as tie
-
-returns : tie.Need-returns
-returns c = cc
-
-pub sub-word-spec : {M : Type 1} → statement M
-sub-word-spec = tie.close (tie.spec (λ c κs. search needs) (λ c κs. search needs) (λ c κs. search needs) (λ c κs. search needs) (λ c κs. search needs) (λ c κs. search needs) (λ c κs. search needs) (λ c κs. search needs) (λ c κs. search needs) returns)

@@ -1,0 +1,15 @@
+use borrow.Author.Needs.{needs}
+use borrow.Author.Tests.{not-true, not-false}
+use Rattle.verdicts.proofs.Verdicts.{blank-class, blank-span, blank-pass}
+use Rattle.verdicts.proofs.blank_verdict.Statement.{statement}
+use Rattle.verdicts.proofs.blank_verdict.Tie as tie
+
+pub blank-verdict-spec : {M : Type 1} → statement M
+blank-verdict-spec =
+    tie.close
+    (tie.spec
+    (λ c κs. search needs)
+    (λ c. search (blank-class, not-true))
+    (λ c κs. search needs)
+    (λ c. search (blank-span, not-true, not-false))
+    (λ c. search (blank-pass, not-false)))

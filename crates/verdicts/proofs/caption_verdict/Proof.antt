@@ -1,0 +1,13 @@
+use borrow.Author.Needs.{needs}
+use Rattle.verdicts.proofs.Verdicts.{caption-long, caption-worn, caption-pass}
+use Rattle.verdicts.proofs.caption_verdict.Statement.{statement}
+use Rattle.verdicts.proofs.caption_verdict.Tie as tie
+
+pub caption-verdict-spec : {M : Type 1} → statement M
+caption-verdict-spec =
+    tie.close
+    (tie.spec
+    (λ c. search caption-long)
+    (λ c κs. search needs)
+    (λ c. search (caption-worn, needs))
+    (λ c. search (caption-pass, needs)))

@@ -1,0 +1,198 @@
+// The tests of each call on a sheet, in the order of its table, and the leaves that they are made of.
+use captions::Answer;
+use captions::Verdict;
+ghost use mathlib.Core.Path.{_≡_};
+ghost use mathlib.Core.Bool.{true, _&&_};
+ghost use mathlib.Core.List.{[], _∷_};
+ghost use Prim.Native.Nat.{_≤_};
+ghost use lib.Dec.{eqb};
+ghost use lib.ListN.{length};
+ghost use Rattle.layout.specs.Layout.{newEdition, editionOf, sheetSize, slotCount, fit};
+ghost use Rattle.layout.specs.Shape.{FitSlot};
+ghost use Rattle.captions.specs.Answers.{firstOf};
+ghost use Rattle.captions.specs.Captions.{pair};
+ghost use Rattle.captions.specs.Calls.{wrongKeys, keyTests, unfitRow, classRow, slotRow, captionTests, blankRow, blankTests};
+ghost use Rattle.verdicts.specs.Rows.{sheetRows, writeRows, windowRows, openRows, clearRows};
+
+// Whether a key has a wrong length, or the two lengths differ.
+fn wrong_keys(sealing: &[u8], checking: &[u8]) -> bool
+    ensures { λ r. ⌜ r ≡ wrongKeys (pair (now (sealing .entry)) (now (checking .entry))) ⌝ }
+{
+    if !cipher::sheet_key_length(sealing.len()) {
+        return true;
+    }
+    if !cipher::sheet_key_length(checking.len()) {
+        return true;
+    }
+    if sealing.len() == checking.len() {
+        return false;
+    }
+    true
+}
+
+// Tests 1 and 2.
+pub fn keys_verdict(sealing: &[u8], checking: &[u8]) -> Verdict
+    ensures { λ r. ⌜ r ≡ firstOf (keyTests (pair (now (sealing .entry)) (now (checking .entry)))) ⌝ }
+{
+    if wrong_keys(sealing, checking) {
+        return Verdict::Refuse(Answer::WrongKey);
+    }
+    if octets::same_bytes(sealing, checking) {
+        return Verdict::Refuse(Answer::TwinKeys);
+    }
+    Verdict::Pass
+}
+
+// Test 4.
+pub fn fit_verdict(sheet: &[u8]) -> Verdict
+    ensures { λ r. ⌜ r ≡ firstOf (unfitRow (editionOf (now (sheet .entry))) (now (sheet .entry)) ∷ []) ⌝ }
+{
+    if layout::fit_sheet(sheet) {
+        return Verdict::Pass;
+    }
+    Verdict::Refuse(Answer::UnfitSheet)
+}
+
+// Test 5 on a sheet that meets the layout; of the keys only the length of the sealing key is looked at.
+pub fn class_verdict(sealing: &[u8], checking: &[u8], sheet: &[u8]) -> Verdict
+    requires { ⌜ fit (now sheet) ≡ true ⌝ }
+    ensures { λ r. ⌜ r ≡ firstOf (classRow (pair (now (sealing .entry)) (now (checking .entry))) (now (sheet .entry)) ∷ []) ⌝ }
+{
+    let h = layout::sheet_shape(sheet);
+    if sealing.len() == cipher::key_bytes(h.class) {
+        return Verdict::Pass;
+    }
+    Verdict::Refuse(Answer::OtherKeyClass)
+}
+
+// Test 6 on a sheet that meets the layout.
+pub fn slot_verdict(sheet: &[u8], slot: usize) -> Verdict
+    requires { ⌜ fit (now sheet) ≡ true ⌝ }
+    ensures { λ r. ⌜ r ≡ firstOf (slotRow (now (sheet .entry)) slot ∷ []) ⌝ }
+{
+    let h = layout::sheet_shape(sheet);
+    if h.slots <= slot {
+        return Verdict::Refuse(Answer::NoSuchSlot);
+    }
+    Verdict::Pass
+}
+
+// Tests 4, 5 and 6.
+pub fn sheet_verdict(sealing: &[u8], checking: &[u8], sheet: &[u8], slot: usize) -> Verdict
+    ensures { λ r. ⌜ r ≡ firstOf (sheetRows (pair (now (sealing .entry)) (now (checking .entry))) (now (sheet .entry)) slot) ⌝ }
+{
+    let fitting = fit_verdict(sheet);
+    if let Verdict::Refuse(a) = fitting {
+        return Verdict::Refuse(a);
+    }
+    let class = class_verdict(sealing, checking, sheet);
+    if let Verdict::Refuse(a) = class {
+        return Verdict::Refuse(a);
+    }
+    slot_verdict(sheet, slot)
+}
+
+// Tests 7 and 8.
+pub fn caption_verdict(sheet: &[u8], caption: &[u8]) -> Verdict
+    requires { ⌜ 8 ≤ length (now sheet) ⌝ }
+    ensures { λ r. ⌜ r ≡ firstOf (captionTests (now (sheet .entry)) (now (caption .entry))) ⌝ }
+{
+    if 192 < caption.len() {
+        return Verdict::Refuse(Answer::Overlong);
+    }
+    if layout::last_write(sheet) == 4294967295 {
+        return Verdict::Refuse(Answer::Worn);
+    }
+    Verdict::Pass
+}
+
+// Test 9 on a slot of a sheet that meets the layout.
+pub fn written_verdict(sheet: &[u8], slot: usize) -> Verdict
+    requires { ⌜ FitSlot (now sheet) slot ⌝ }
+    ensures { λ r. ⌜ r ≡ firstOf (blankRow (editionOf (now (sheet .entry))) (now (sheet .entry)) slot ∷ []) ⌝ }
+{
+    if layout::blank_slot(sheet, layout::sheet_shape(sheet), slot) {
+        return Verdict::Refuse(Answer::Blank);
+    }
+    Verdict::Pass
+}
+
+// Tests 1, 2, 4 to 8.
+pub fn write_verdict(
+    sealing: &[u8],
+    checking: &[u8],
+    sheet: &[u8],
+    slot: usize,
+    caption: &[u8],
+) -> Verdict
+    ensures { λ r. ⌜ r ≡ firstOf (writeRows (pair (now (sealing .entry)) (now (checking .entry))) (now (sheet .entry)) slot (now (caption .entry))) ⌝ }
+{
+    let keys = keys_verdict(sealing, checking);
+    if let Verdict::Refuse(a) = keys {
+        return Verdict::Refuse(a);
+    }
+    let fitting = sheet_verdict(sealing, checking, sheet, slot);
+    if let Verdict::Refuse(a) = fitting {
+        return Verdict::Refuse(a);
+    }
+    caption_verdict(sheet, caption)
+}
+
+// Tests 1 to 6, for a window of n bytes.
+fn window_verdict(sealing: &[u8], checking: &[u8], sheet: &[u8], slot: usize, n: usize) -> Verdict
+    ensures { λ r. ⌜ r ≡ firstOf (windowRows (pair (now (sealing .entry)) (now (checking .entry))) (now (sheet .entry)) slot n) ⌝ }
+{
+    let keys = keys_verdict(sealing, checking);
+    if let Verdict::Refuse(a) = keys {
+        return Verdict::Refuse(a);
+    }
+    if n != 192 {
+        return Verdict::Refuse(Answer::WrongSpan);
+    }
+    sheet_verdict(sealing, checking, sheet, slot)
+}
+
+// Tests 1 to 6 and 9, for a window of n bytes.
+pub fn read_verdict(sealing: &[u8], checking: &[u8], sheet: &[u8], slot: usize, n: usize) -> Verdict
+    ensures { λ r. ⌜ r ≡ firstOf (openRows (pair (now (sealing .entry)) (now (checking .entry))) (now (sheet .entry)) slot n) ⌝ }
+{
+    let window = window_verdict(sealing, checking, sheet, slot, n);
+    if let Verdict::Refuse(a) = window {
+        return Verdict::Refuse(a);
+    }
+    written_verdict(sheet, slot)
+}
+
+// Tests 4 and 6.
+pub fn clear_verdict(sheet: &[u8], slot: usize) -> Verdict
+    ensures { λ r. ⌜ r ≡ firstOf (clearRows (now (sheet .entry)) slot) ⌝ }
+{
+    let fitting = fit_verdict(sheet);
+    if let Verdict::Refuse(a) = fitting {
+        return Verdict::Refuse(a);
+    }
+    slot_verdict(sheet, slot)
+}
+
+// Whether a blank sheet of n slots has the length of this one.
+fn blank_span(sheet: &[u8], n: usize) -> bool
+    ensures { λ r. ⌜ r ≡ slotCount n && eqb (length (now (sheet .entry))) (sheetSize (newEdition .header) n) ⌝ }
+{
+    if layout::slot_count(n) {
+        return sheet.len() == layout::blank_size(n);
+    }
+    false
+}
+
+// Tests 1 and 3 of blanking.
+pub fn blank_verdict(sheet: &[u8], n: usize, t: usize) -> Verdict
+    ensures { λ r. ⌜ r ≡ firstOf (blankTests (now (sheet .entry)) n t) ⌝ }
+{
+    if !cipher::class_known(t) {
+        return Verdict::Refuse(Answer::WrongKey);
+    }
+    if !blank_span(sheet, n) {
+        return Verdict::Refuse(Answer::WrongSpan);
+    }
+    Verdict::Pass
+}
