@@ -26,15 +26,30 @@ extern "C" {
 #endif
 
 /* What a call answers: number is CAPTIONS_ACCEPTED or a refusal; length is 0,
- * except for an accepted read, where it is the caption's. */
+ * except for an accepted read, dated or not, where it is the caption's. */
 typedef struct {
     uint8_t number;
     uint16_t length;
 } captions_answer;
 
-/* The numbers. A call tests in this order and gives the first that applies.
- * A refusal changes no lent byte, except that a refused read makes every byte
- * of its window zero, also where the window has a wrong length. */
+/* What a conversion answers: number is CAPTIONS_ACCEPTED or
+ * CAPTIONS_NO_SUCH_DATE, and then all else is 0. Day 0 is a true answer too, so
+ * that only the number tells. */
+typedef struct {
+    uint8_t number;
+    uint16_t day; /* 0, which is 2000-01-01, to CAPTIONS_LAST_DAY */
+} captions_day;
+typedef struct {
+    uint8_t number;
+    uint16_t year; /* 2000 to 2099 */
+    uint8_t month; /* 1 to 12 */
+    uint8_t day;   /* 1 to 31 */
+} captions_date;
+
+/* The numbers. A call tests in the order in which its refusals are listed with
+ * it below and gives the first that applies. A refusal changes no lent byte,
+ * except that a refused read, dated or not, makes every byte of its window
+ * zero, also where the window has a wrong length. */
 enum {
     CAPTIONS_ACCEPTED = 0,
     CAPTIONS_WRONG_KEY = 1,       /* a key isn't 8, 12 or 16 bytes, or the two
@@ -46,15 +61,23 @@ enum {
                                      blanking: slots isn't 1 to 256, or the
                                      sheet isn't CAPTIONS_SHEET(slots) bytes */
     CAPTIONS_UNFIT_SHEET = 4,     /* shorter than 8 bytes, or any rule of the
-                                     layout broken, in any slot */
+                                     layout broken, in any slot; a term sheet
+                                     with another slot count than the sheet's,
+                                     not CAPTIONS_TERMS(slots) bytes, or with a
+                                     day above CAPTIONS_LAST_DAY, in any slot */
     CAPTIONS_OTHER_KEY_CLASS = 5, /* keys of another length than the sheet's */
     CAPTIONS_NO_SUCH_SLOT = 6,    /* the slot isn't below the slot count */
     CAPTIONS_OVERLONG = 7,        /* a caption above 192 bytes */
     CAPTIONS_WORN = 8,            /* a write on a sheet whose last write number
                                      is 4294967295 */
     CAPTIONS_BLANK = 9,           /* a read of a blank slot */
-    CAPTIONS_ALTERED = 10         /* the check differs, or an opened byte at or
+    CAPTIONS_ALTERED = 10,        /* the check differs, or an opened byte at or
                                      past the length isn't zero */
+    CAPTIONS_NO_SUCH_DATE = 11,   /* a year, month and day that are no date from
+                                     2000-01-01 to 2099-12-31; a day above
+                                     CAPTIONS_LAST_DAY */
+    CAPTIONS_NOT_ON_SHOW = 12     /* a dated read before the slot's opening day
+                                     or after its closing day */
 };
 
 /* The word of each number, for a table of strings:
@@ -63,7 +86,7 @@ enum {
     {                                                                          \
         "accepted", "wrong key", "twin keys", "wrong span", "unfit sheet",     \
             "other key class", "no such slot", "overlong", "worn", "blank",    \
-            "altered"                                                          \
+            "altered", "no such date", "not on show"                           \
     }
 
 #define CAPTIONS_BLOCK 8     /* bytes of a block, and of its output */
@@ -74,10 +97,17 @@ enum {
                                 longest caption */
 #define CAPTIONS_SLOTS 256   /* the most slots of a sheet */
 #define CAPTIONS_LISTING 6836 /* bytes of the longest listing */
+#define CAPTIONS_LAST_DAY 36524 /* 2099-12-31; day 0 is 2000-01-01 */
 
 /* The bytes of a sheet with that many slots, 1 to CAPTIONS_SLOTS. */
 #define CAPTIONS_SHEET(slots)                                                  \
     (CAPTIONS_HEADER + (CAPTIONS_MARK + CAPTIONS_FIELD) * (size_t)(slots))
+
+/* The bytes of a term sheet for a sheet with that many slots: the slot count,
+ * the opening days of all slots, then the closing days, each number 2 bytes,
+ * high byte first. A slot is on show from its opening to its closing day, both
+ * included; where the opening is above the closing day, never. */
+#define CAPTIONS_TERMS(slots) (2 + 4 * (size_t)(slots))
 
 /* Seals (encrypts) or opens (decrypts) one block. Bit r - 1 of path, from the
  * lowest, is 1 for the word path in round r and 0 for the nibble path; the top
@@ -127,6 +157,23 @@ captions_answer captions_read(const uint8_t *sealing_key, size_t sealing_len,
                               const uint8_t *sheet, size_t sheet_len,
                               size_t slot,
                               uint8_t *window, size_t window_len);
+
+/* The day of a date of the Gregorian calendar, and the date of a day.
+ * Refusal: NO_SUCH_DATE. */
+captions_day captions_day_of_date(size_t year, size_t month, size_t day);
+captions_date captions_date_of_day(size_t day);
+
+/* Reads a slot as captions_read does if the slot is on show on that day by the
+ * term sheet. A refused read makes every byte of the window zero.
+ * Refusals: WRONG_KEY, TWIN_KEYS, WRONG_SPAN, UNFIT_SHEET (the sheet, then the
+ * term sheet), OTHER_KEY_CLASS, NO_SUCH_DATE, NO_SUCH_SLOT, BLANK, NOT_ON_SHOW,
+ * ALTERED. */
+captions_answer captions_dated_read(
+    const uint8_t *sealing_key, size_t sealing_len,
+    const uint8_t *checking_key, size_t checking_len,
+    const uint8_t *sheet, size_t sheet_len,
+    const uint8_t *terms, size_t terms_len, size_t slot, size_t day,
+    uint8_t *window, size_t window_len);
 
 /* Puts the listing of a sheet, lines of text with no zero byte after them,
  * into the first bytes of out and answers how many bytes it has; the bytes

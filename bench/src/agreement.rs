@@ -2,10 +2,12 @@
 //! baseline that is wrong is no measure.
 
 use crate::baseline::{self, Looped, SameIdeas, Style};
+use crate::dates::{self, Conversions};
 use differential::random::Random;
 use differential::sheets::{
     caption_length, fit_sheet, kinds, near_sheet, Keys, CLASSES, FAULTS, FIELD,
 };
+use differential::terms::{day_near, some_terms, FAR_DAYS};
 use reference::Answer;
 
 /// Panics where the two differ; else how many calls were compared.
@@ -14,8 +16,8 @@ pub fn check_baseline() -> u64 {
     blocks(&mut random) + check_style::<Looped>(&mut random) + check_style::<SameIdeas>(&mut random)
 }
 
-fn check_style<S: Style>(random: &mut Random) -> u64 {
-    cmacs::<S>(random) + sheets::<S>(random) + layouts::<S>(random)
+fn check_style<S: Style + Conversions>(random: &mut Random) -> u64 {
+    cmacs::<S>(random) + sheets::<S>(random) + layouts::<S>(random) + conversions::<S>()
 }
 
 type BlockCall = fn(&[u8], &[u8], &mut [u8]) -> Answer;
@@ -107,7 +109,8 @@ fn sheets<S: Style>(random: &mut Random) -> u64 {
                 assert_eq!(answers.0, answers.1);
                 assert!(ours == theirs, "a sheet of {n} slots");
                 compare_reads::<S>(&keys, ours, slot);
-                compared += 2;
+                compare_dated_reads::<S>(random, &keys, ours, n);
+                compared += 3;
             }
         }
     }
@@ -122,6 +125,29 @@ fn compare_reads<S: Style>(keys: &Keys, sheet: &[u8], slot: usize) -> Answer {
     assert_eq!(answer, true_answer, "a read of slot {slot}");
     assert_eq!(windows[0], windows[1], "a read of slot {slot}");
     answer
+}
+
+/// A read of any slot, with any term sheet, on a day near an end of its terms;
+/// seldom with other keys or another window.
+fn compare_dated_reads<S: Style>(random: &mut Random, own: &Keys, sheet: &[u8], n: usize) {
+    let t = random.pick(&CLASSES);
+    let keys = match random.below(12) {
+        0 => &Keys::unlike(random, t),
+        1 => &Keys::twins(random, 2 * t),
+        _ => own,
+    };
+    let terms = some_terms(random, n);
+    let (slot, day) = (random.below(n + 1), day_near(random, &terms));
+    let length = FIELD - usize::from(random.once_in(12));
+    let mut windows = [vec![1; length], vec![1; length]];
+    let [ours, theirs] = &mut windows;
+    let (sealing, checking) = (&keys.sealing, &keys.checking);
+    assert_eq!(
+        baseline::dated_read::<S>(sealing, checking, sheet, &terms, slot, day, ours),
+        reference::dated_read(sealing, checking, sheet, &terms, slot, day, theirs),
+        "a read of slot {slot} on day {day}, terms {terms:02x?}"
+    );
+    assert_eq!(ours, theirs, "a read of slot {slot} on day {day}");
 }
 
 fn layouts<S: Style>(random: &mut Random) -> u64 {
@@ -140,6 +166,27 @@ fn layouts<S: Style>(random: &mut Random) -> u64 {
                         compared += 2;
                     }
                 }
+            }
+        }
+    }
+    compared
+}
+
+/// Every day and every date, those beside them, and far numbers.
+fn conversions<C: Conversions>() -> u64 {
+    let mut compared = 0;
+    for day in (0..=36_600).chain(FAR_DAYS) {
+        let ours = dates::date_of_day::<C>(day);
+        assert_eq!(ours, reference::date_of_day(day), "day {day}");
+        compared += 1;
+    }
+    for year in (1_999..=2_100).chain(FAR_DAYS) {
+        for month in (0..=13).chain(FAR_DAYS) {
+            for day in (0..=32).chain(FAR_DAYS) {
+                let ours = dates::day_of_date::<C>(year, month, day);
+                let theirs = reference::day_of_date(year, month, day);
+                assert_eq!(ours, theirs, "year {year}, month {month}, day {day}");
+                compared += 1;
             }
         }
     }

@@ -9,8 +9,8 @@
 //! written mark's last bytes compared as one number.
 
 use reference::{
-    Answer, ALTERED, BLANK, NO_SUCH_SLOT, OTHER_KEY_CLASS, OVERLONG, TWIN_KEYS, UNFIT_SHEET, WORN,
-    WRONG_KEY, WRONG_SPAN,
+    Answer, ALTERED, BLANK, NOT_ON_SHOW, NO_SUCH_DATE, NO_SUCH_SLOT, OTHER_KEY_CLASS, OVERLONG,
+    TWIN_KEYS, UNFIT_SHEET, WORN, WRONG_KEY, WRONG_SPAN,
 };
 use std::array::from_fn;
 
@@ -639,44 +639,73 @@ pub fn read<S: Style>(
     window: &mut [u8],
 ) -> Answer {
     window.fill(0);
-    if let Some(number) = key_fault(sealing_key, checking_key) {
-        return Answer::refused(number);
+    let keys = (sealing_key, checking_key);
+    let tested = read_header::<S>(keys, sheet, window).and_then(|header| {
+        class_fits(keys, &header)?;
+        written_slot(sheet, &header, slot)
+    });
+    match tested {
+        Ok(written) => shown_slot::<S>(keys, slot, written, window),
+        Err(number) => Answer::refused(number),
+    }
+}
+
+type KeyPair<'a> = (&'a [u8], &'a [u8]);
+
+/// The mark and the field of a slot.
+type Slot<'a> = (&'a [u8], &'a [u8]);
+
+/// Tests 1 to 4 of a read.
+#[inline(always)]
+fn read_header<S: Style>(keys: KeyPair, sheet: &[u8], window: &[u8]) -> Result<Header, u8> {
+    if let Some(number) = key_fault(keys.0, keys.1) {
+        return Err(number);
     }
     if window.len() != FIELD {
-        return Answer::refused(WRONG_SPAN);
+        return Err(WRONG_SPAN);
     }
-    let Some(header) = fit_header::<S>(sheet) else {
-        return Answer::refused(UNFIT_SHEET);
-    };
-    if sealing_key.len() != 2 * header.t {
-        return Answer::refused(OTHER_KEY_CLASS);
+    fit_header::<S>(sheet).ok_or(UNFIT_SHEET)
+}
+
+/// Test 5.
+#[inline(always)]
+fn class_fits(keys: KeyPair, header: &Header) -> Result<(), u8> {
+    if keys.0.len() != 2 * header.t {
+        return Err(OTHER_KEY_CLASS);
     }
+    Ok(())
+}
+
+/// Tests 6 and 9.
+#[inline(always)]
+fn written_slot<'a>(sheet: &'a [u8], header: &Header, slot: usize) -> Result<Slot<'a>, u8> {
     if slot >= header.n {
-        return Answer::refused(NO_SUCH_SLOT);
+        return Err(NO_SUCH_SLOT);
     }
     let mark = &sheet[header.mark(slot)..][..16];
-    let field = &sheet[header.field(slot)..][..FIELD];
-    let keys = (sealing_key, checking_key);
+    if load(mark) >> 32 == 0 {
+        return Err(BLANK);
+    }
+    Ok((mark, &sheet[header.field(slot)..][..FIELD]))
+}
+
+fn shown_slot<S: Style>(keys: KeyPair, slot: usize, written: Slot, window: &mut [u8]) -> Answer {
     by_key_length!(
         S,
-        sealing_key.len(),
-        shown_slot(keys, slot, mark, field, window),
+        keys.0.len(),
+        opened_slot(keys, slot, written, window),
         Answer::refused(WRONG_KEY)
     )
 }
 
-fn shown_slot<S: Style, R: Register>(
-    (sealing_key, checking_key): (&[u8], &[u8]),
+fn opened_slot<S: Style, R: Register>(
+    (sealing_key, checking_key): KeyPair,
     slot: usize,
-    mark: &[u8],
-    field: &[u8],
+    (mark, field): Slot,
     window: &mut [u8],
 ) -> Answer {
     let write_number = (load(mark) >> 32) as u32;
     let length = (load(mark) >> 16) as u16;
-    if write_number == 0 {
-        return Answer::refused(BLANK);
-    }
     let checked = numbers(write_number, slot, length);
     if check::<S, R>(R::of_key(checking_key), checked, field) != load(&mark[8..]) {
         return Answer::refused(ALTERED);
@@ -689,4 +718,56 @@ fn shown_slot<S: Style, R: Register>(
         return Answer::refused(ALTERED);
     }
     Answer::accepted(length)
+}
+
+// ---- The dated read ----
+
+const LAST_DAY: u16 = 36_524;
+
+/// The opening days, then the closing days of a term sheet that fits n slots.
+fn fit_terms(terms: &[u8], n: usize) -> Option<&[[u8; 2]]> {
+    let (count, days) = terms.split_first_chunk()?;
+    if usize::from(u16::from_be_bytes(*count)) != n || days.len() != 4 * n {
+        return None;
+    }
+    let (days, _) = days.as_chunks();
+    // What days are late by is gathered, as the bytes of a blank slot are.
+    let late = days.iter().fold(0, |gathered, day| {
+        gathered | u16::from_be_bytes(*day).saturating_sub(LAST_DAY)
+    });
+    (late == 0).then_some(days)
+}
+
+fn on_show(days: &[[u8; 2]], n: usize, slot: usize, day: usize) -> bool {
+    let number = |place: usize| usize::from(u16::from_be_bytes(days[place]));
+    number(slot) <= day && day <= number(n + slot)
+}
+
+pub fn dated_read<S: Style>(
+    sealing_key: &[u8],
+    checking_key: &[u8],
+    sheet: &[u8],
+    terms: &[u8],
+    slot: usize,
+    day: usize,
+    window: &mut [u8],
+) -> Answer {
+    window.fill(0);
+    let keys = (sealing_key, checking_key);
+    let tested = read_header::<S>(keys, sheet, window).and_then(|header| {
+        let days = fit_terms(terms, header.n).ok_or(UNFIT_SHEET)?;
+        class_fits(keys, &header)?;
+        if day > usize::from(LAST_DAY) {
+            return Err(NO_SUCH_DATE);
+        }
+        let written = written_slot(sheet, &header, slot)?;
+        if !on_show(days, header.n, slot, day) {
+            return Err(NOT_ON_SHOW);
+        }
+        Ok(written)
+    });
+    match tested {
+        Ok(written) => shown_slot::<S>(keys, slot, written, window),
+        Err(number) => Answer::refused(number),
+    }
 }

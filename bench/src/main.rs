@@ -3,6 +3,7 @@
 
 mod agreement;
 mod baseline;
+mod dates;
 mod instructions;
 mod meter;
 mod timing;
@@ -12,6 +13,7 @@ use differential::edition::Edition;
 use differential::library;
 use differential::random::Random;
 use differential::sheets::{set_last_number, Keys, CLASSES, FIELD};
+use differential::term_sheet::{term_sheet, ALWAYS, LAST_DAY};
 use meter::{figure, Aims, Meter};
 use reference::Answer;
 use std::hint::black_box;
@@ -32,7 +34,8 @@ The calls of a row are sampled in turn, round by round: {ROUNDS} rounds, samples
 rounds of library / baseline, or library / same ideas. No output feeds the next call;
 arguments and results go through black_box; the buffers are warm. No speed is asserted.
 The same ideas in Rust: the baseline with its rounds written out, four blocks decrypted
-in one walk of the register, and a mark's last bytes compared as one number.
+in one walk of the register, a mark's last bytes compared as one number, and the starts
+of the months along a line in place of a table.
 Instructions: the library's, and their part of the baseline's, by valgrind."
     );
     let mut meter = Meter::timing();
@@ -45,6 +48,7 @@ fn measure(meter: &mut Meter) {
     blocks(meter, &mut random);
     cmacs(meter, &mut random);
     sheets(meter, &mut random);
+    conversions(meter, &mut random);
 }
 
 // ---- One block ----
@@ -181,12 +185,14 @@ fn sheets(meter: &mut Meter, random: &mut Random) {
 128-bit keys. Full: every slot holds a caption of 192 bytes; blank: none does. A read
 opens, a write seals and a clear empties the last slot, each after the layout test
 of the whole sheet. CBC has no call of its own: a write is 25 encryptions by CBC,
-26 by CMAC and the layout test, a read the same with 24 decryptions. The layout
+26 by CMAC and the layout test, a read the same with 24 decryptions. A dated read
+is a read after the test of the whole term sheet, with every slot on show. The layout
 test alone is a clear of slot n, which is refused after that test.",
         "Call | Sheet | Slots | Library | Baseline | Same ideas in Rust | Ratio | To same ideas | Instructions | Second program",
     );
-    let calls: [(&str, &str, SheetCalls, Aims); 5] = [
+    let calls: [(&str, &str, SheetCalls, Aims); 6] = [
         ("read", "full", reads, Aims::Reads),
+        ("dated read", "full", dated_reads, Aims::DatedReads),
         ("write", "full", writes, Aims::Writes),
         ("clear", "full", clears, Aims::None),
         ("layout test", "full", layout_tests, Aims::FullLayout),
@@ -246,6 +252,34 @@ fn reads(keys: &Keys, sheet: &[u8], n: usize) -> Vec<Timed<'static>> {
     .into()
 }
 
+fn dated_reads(keys: &Keys, sheet: &[u8], n: usize) -> Vec<Timed<'static>> {
+    let terms = term_sheet(&vec![ALWAYS; n]);
+    [
+        library::dated_read,
+        baseline::dated_read::<Looped>,
+        baseline::dated_read::<SameIdeas>,
+        reference::dated_read,
+    ]
+    .map(|read| {
+        let (keys, sheet, terms) = (keys.clone(), sheet.to_vec(), terms.clone());
+        let mut window = [0; FIELD];
+        timed(move || {
+            let (keys, sheet, terms) = black_box((&keys, &sheet, &terms));
+            let (day, window) = black_box((LAST_DAY, &mut window));
+            read(
+                &keys.sealing,
+                &keys.checking,
+                sheet,
+                terms,
+                n - 1,
+                day,
+                window,
+            )
+        })
+    })
+    .into()
+}
+
 fn writes(keys: &Keys, sheet: &[u8], n: usize) -> Vec<Timed<'static>> {
     let caption = [0x41; FIELD];
     [
@@ -287,4 +321,77 @@ fn clears_of(sheet: &[u8], slot: usize) -> Vec<Timed<'static>> {
         timed(move || clear(black_box(&mut sheet), black_box(slot)))
     })
     .into()
+}
+
+// ---- Dates ----
+
+/// How many conversions are timed as one.
+const CONVERSIONS: usize = 256;
+
+fn conversions(meter: &mut Meter, random: &mut Random) {
+    meter.head(
+        "Dates: ns for each conversion",
+        "\
+256 days from all of 2000 to 2099 in no order, and their dates, gone through in a loop,
+which is part of the figures.",
+        "Call | Library | Baseline | Same ideas in Rust | Ratio | To same ideas | Instructions | Second program",
+    );
+    let days: Vec<usize> = (0..CONVERSIONS)
+        .map(|_| random.below(LAST_DAY + 1))
+        .collect();
+    let dates: Vec<Date> = days.iter().map(|day| date_of(*day)).collect();
+    let rows = [
+        ("day of date", days_of_dates(&dates)),
+        ("date of day", dates_of_days(&days)),
+    ];
+    for (name, calls) in rows {
+        let row = meter.row_of(CONVERSIONS, calls);
+        meter.aim(Aims::Conversions, row.ratio(0, 1));
+        meter.print(&[
+            name,
+            &figure(row.nanoseconds(0)),
+            &figure(row.nanoseconds(1)),
+            &figure(row.nanoseconds(2)),
+            &row.ratio_cell(0, 1),
+            &row.ratio_cell(0, 2),
+            &row.instructions(0, 1),
+            &figure(row.nanoseconds(3)),
+        ]);
+    }
+}
+
+/// Year, month and day.
+type Date = [usize; 3];
+
+fn date_of(day: usize) -> Date {
+    let date = reference::date_of_day(day);
+    [date.year.into(), date.month.into(), date.day.into()]
+}
+
+/// Each call is one of its own to the compiler, so that the library's costs no
+/// second call through a pointer.
+fn each<'a, I: Copy, O>(inputs: &'a [I], convert: impl Fn(I) -> O + 'a) -> Timed<'a> {
+    timed(move || {
+        for input in black_box(inputs) {
+            black_box(convert(*input));
+        }
+    })
+}
+
+fn days_of_dates(dates: &[Date]) -> Vec<Timed<'_>> {
+    vec![
+        each(dates, |[y, m, d]| library::day_of_date(y, m, d)),
+        each(dates, |[y, m, d]| dates::day_of_date::<Looped>(y, m, d)),
+        each(dates, |[y, m, d]| dates::day_of_date::<SameIdeas>(y, m, d)),
+        each(dates, |[y, m, d]| reference::day_of_date(y, m, d)),
+    ]
+}
+
+fn dates_of_days(days: &[usize]) -> Vec<Timed<'_>> {
+    vec![
+        each(days, library::date_of_day),
+        each(days, dates::date_of_day::<Looped>),
+        each(days, dates::date_of_day::<SameIdeas>),
+        each(days, reference::date_of_day),
+    ]
 }

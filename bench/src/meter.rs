@@ -8,22 +8,26 @@ use std::vec::IntoIter;
 #[derive(Clone, Copy, PartialEq)]
 pub enum Aims {
     Reads,
+    DatedReads,
     Writes,
     Cmac,
     Blocks,
     FullLayout,
     BlankLayout,
+    Conversions,
     None,
 }
 
 /// The most that the library is to take of the baseline's time.
-const AIMS: [(Aims, &str, f64); 6] = [
+const AIMS: [(Aims, &str, f64); 8] = [
     (Aims::Reads, "read", 0.80),
+    (Aims::DatedReads, "dated read", 0.80),
     (Aims::Writes, "write", 0.95),
     (Aims::Cmac, "CMAC", 0.92),
     (Aims::Blocks, "block calls with 0xffff", 1.00),
     (Aims::FullLayout, "layout test of a full sheet", 0.80),
     (Aims::BlankLayout, "layout test of a blank sheet", 1.00),
+    (Aims::Conversions, "conversion", 1.00),
 ];
 
 /// Counts in the process that valgrind watches, and times in the other.
@@ -54,12 +58,19 @@ impl Meter {
         }
     }
 
-    pub fn row(&mut self, mut calls: Vec<Timed>) -> Row {
+    pub fn row(&mut self, calls: Vec<Timed>) -> Row {
+        self.row_of(1, calls)
+    }
+
+    /// A row of calls that each do the same so many times: figures are for one.
+    pub fn row_of(&mut self, times: usize, mut calls: Vec<Timed>) -> Row {
+        let times = times as f64;
         if self.counting {
             instructions::make(&mut calls);
             return Row {
                 samples: None,
                 counts: Vec::new(),
+                times,
             };
         }
         let counts = match &mut self.counts {
@@ -69,6 +80,7 @@ impl Meter {
         Row {
             samples: Some(Samples::of(calls)),
             counts,
+            times,
         }
     }
 
@@ -107,11 +119,13 @@ impl Meter {
 pub struct Row {
     samples: Option<Samples>,
     counts: Vec<f64>,
+    times: f64,
 }
 
 impl Row {
     pub fn nanoseconds(&self, call: usize) -> f64 {
-        self.samples.as_ref().map_or(0.0, |s| s.nanoseconds(call))
+        let samples = self.samples.as_ref();
+        samples.map_or(0.0, |s| s.nanoseconds(call) / self.times)
     }
 
     pub fn ratio(&self, call: usize, to: usize) -> f64 {
@@ -125,7 +139,9 @@ impl Row {
     /// A call's instructions, and their part of another's.
     pub fn instructions(&self, call: usize, to: usize) -> String {
         match (self.counts.get(call), self.counts.get(to)) {
-            (Some(count), Some(other)) => format!("{count:.0} ({:.2})", count / other),
+            (Some(count), Some(other)) => {
+                format!("{:.0} ({:.2})", count / self.times, count / other)
+            }
             _ => "-".to_string(),
         }
     }

@@ -1,6 +1,8 @@
 //! What each command does.
 
+use crate::blank_sheet::blank_sheet;
 use crate::caption::{self, Source};
+use crate::date;
 use crate::exchange::{self, Import};
 use crate::failure::Failure;
 use crate::input;
@@ -8,9 +10,10 @@ use crate::keys::Keys;
 use crate::listing::{self, Verified};
 use crate::sheet_file;
 use crate::shown::shown;
-use crate::terminal::print;
+use crate::terminal::{hint, print};
+use crate::terms::{self, Term};
 use crate::words::{self, wrong_for, Request, Words};
-use captions::{sheet_len, Refusal, FIELD, SLOTS};
+use captions::{Refusal, FIELD};
 use std::ffi::{OsStr, OsString};
 use std::path::Path;
 use std::time::Duration;
@@ -25,6 +28,10 @@ pub fn run(words: &[OsString]) -> Result<(), Failure> {
         Request::Run(page, words) => {
             run_command(page.name, &words).map_err(|failure| match failure {
                 Failure::Usage(message) => wrong_for(page, &message),
+                Failure::Refused(Refusal::NoSuchDate) => {
+                    hint("a date is YYYY-MM-DD, from 2000-01-01 to 2099-12-31");
+                    failure
+                }
                 other => other,
             })
         }
@@ -37,13 +44,16 @@ fn run_command(name: &str, words: &Words) -> Result<(), Failure> {
     match name {
         "blank" => blank(file, second, third, words),
         "write" => write(file, second, Path::new(third), words),
-        "read" => read(file, second, Path::new(third)),
+        "read" => read(file, second, Path::new(third), words),
         "clear" => clear(file, second, words),
         "list" => list(file, words),
         "verify" => verify(file, Path::new(second), words),
         "export" => export(file, Path::new(second)),
         "import" => import(file, Path::new(second), words),
         "keys" => keys(file, second, words),
+        "terms" => terms(file, words),
+        "terms-blank" => terms_blank(file, second, words),
+        "terms-set" => terms_set(file, second, words),
         _ => Err(Failure::Usage(format!("{name} takes no words"))),
     }
 }
@@ -52,20 +62,6 @@ fn blank(file: &Path, slots: &OsStr, bits: &OsStr, words: &Words) -> Result<(), 
     let slots = number("SLOTS", slots)?;
     let sheet = blank_sheet(slots, number("BITS", bits)?)?;
     sheet_file::create(file, wait(words)?, &sheet, words.has("--force"))
-}
-
-/// A blank sheet. Bits that make no whole 16-bit words become 0 words, which the
-/// library refuses like any other number that isn't 4, 6 or 8.
-fn blank_sheet(slots: usize, bits: usize) -> Result<Vec<u8>, Refusal> {
-    let key_words = if bits.is_multiple_of(16) {
-        bits / 16
-    } else {
-        0
-    };
-    // One slot more than a sheet can have is enough for the library to refuse.
-    let mut sheet = vec![0; sheet_len(slots.min(SLOTS + 1))];
-    captions::blank(&mut sheet, slots, key_words)?;
-    Ok(sheet)
 }
 
 fn write(file: &Path, slot: &OsStr, keys: &Path, words: &Words) -> Result<(), Failure> {
@@ -82,13 +78,25 @@ fn write(file: &Path, slot: &OsStr, keys: &Path, words: &Words) -> Result<(), Fa
     Ok(())
 }
 
-fn read(file: &Path, slot: &OsStr, keys: &Path) -> Result<(), Failure> {
-    let slot = number("SLOT", slot)?;
-    one_from_standard_input(&[input::is_standard(file), input::is_standard(keys)])?;
+fn read(file: &Path, slot: &OsStr, keys: &Path, words: &Words) -> Result<(), Failure> {
+    let (slot, dated) = (number("SLOT", slot)?, dated(words)?);
+    let terms = dated.map(|(terms, _)| terms);
+    let read = [Some(file), Some(keys), terms];
+    one_from_standard_input(&read.map(|path| path.is_some_and(input::is_standard)))?;
     let keys = Keys::of_file(keys)?;
+    let (sealing, checking) = (&keys.sealing, &keys.checking);
     let sheet = sheet_file::read(file)?;
     let mut window = [0; FIELD];
-    let length = captions::read(&keys.sealing, &keys.checking, &sheet, slot, &mut window)?;
+    let length = match dated {
+        None => captions::read(sealing, checking, &sheet, slot, &mut window)?,
+        Some((terms, date)) => {
+            let terms = sheet_file::read(terms)?;
+            // What is no date becomes a day that there isn't, so that the library
+            // says which of its refusals comes first.
+            let day = date::day_of(date).map_or(usize::MAX, usize::from);
+            captions::dated_read(sealing, checking, &sheet, &terms, slot, day, &mut window)?
+        }
+    };
     print(window.get(..length).unwrap_or(&window))
 }
 
@@ -150,7 +158,53 @@ fn keys(file: &Path, bits: &OsStr, words: &Words) -> Result<(), Failure> {
     sheet_file::create_private(file, wait(words)?, keys.text().as_bytes())
 }
 
+fn terms(file: &Path, words: &Words) -> Result<(), Failure> {
+    let sheet = sheet_file::read(file)?;
+    let text = match words.has("--json") {
+        true => terms::json(&sheet),
+        false => terms::text(&sheet),
+    };
+    print(text.as_bytes())
+}
+
+fn terms_blank(file: &Path, slots: &OsStr, words: &Words) -> Result<(), Failure> {
+    let sheet = terms::blank(number("SLOTS", slots)?)?;
+    sheet_file::create(file, wait(words)?, &sheet, words.has("--force"))
+}
+
+fn terms_set(file: &Path, slot: &OsStr, words: &Words) -> Result<(), Failure> {
+    let (slot, wait) = (number("SLOT", slot)?, wait(words)?);
+    let term = match words.has("--never") {
+        true => Term::NEVER,
+        false => term_of(words.operand(2), words.operand(3))?,
+    };
+    sheet_file::change(file, wait, |sheet| Ok(terms::set(sheet, slot, term)?))
+}
+
 // ---- Their words ----
+
+/// The term sheet and the date of a dated read; none where it isn't dated.
+fn dated<'a>(words: &Words<'a>) -> Result<Option<(&'a Path, &'a OsStr)>, Failure> {
+    match (words.value("--terms"), words.value("--on")) {
+        (Some(terms), Some(date)) => Ok(Some((Path::new(terms), date))),
+        (None, None) => Ok(None),
+        _ => Err(Failure::Usage(
+            "--terms and --on are given together or not at all".to_string(),
+        )),
+    }
+}
+
+/// A term by its dates, the second not before the first: what would mean "never"
+/// is nearly always a slip.
+fn term_of(opening: &OsStr, closing: &OsStr) -> Result<Term, Failure> {
+    let (opening, closing) = (date::day_of(opening)?, date::day_of(closing)?);
+    match opening <= closing {
+        true => Ok(Term { opening, closing }),
+        false => Err(Failure::Usage(
+            "OPENING is after CLOSING; --never keeps a slot off show".to_string(),
+        )),
+    }
+}
 
 /// A decimal number. One that is too large for the machine becomes the largest,
 /// which is out of every range that the library tests too.

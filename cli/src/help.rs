@@ -15,6 +15,8 @@ pub struct Page {
     pub operands: &'static [&'static str],
     /// The options with the word that each takes, if any, and what each does.
     pub options: &'static [(&'static str, &'static str)],
+    /// An option that stands in place of the last operands, and how many stay.
+    pub instead: Option<(&'static str, usize)>,
     /// How operands and options are put together, after the command's name.
     pub usage: &'static str,
     /// What it does, in a few words.
@@ -30,11 +32,12 @@ const WAIT: (&str, &str) = (
     "wait so long for the folder's lock; 30 if not given",
 );
 
-pub const PAGES: [Page; 10] = [
+pub const PAGES: [Page; 13] = [
     Page {
         name: "blank",
         operands: &["FILE", "SLOTS", "BITS"],
         options: &[("--force", "blank a FILE that exists"), WAIT],
+        instead: None,
         usage: "FILE SLOTS BITS [--force] [--wait SECONDS]",
         summary: "make a sheet of blank slots",
         about: "\
@@ -57,6 +60,7 @@ the same start, which shows where an old and a new caption begin alike.
             ("--empty", "the caption has no bytes"),
             WAIT,
         ],
+        instead: None,
         usage: "FILE SLOT KEYS\n[--text TEXT | --file NAME | --empty] [--wait SECONDS]",
         summary: "write a caption",
         about: "\
@@ -76,19 +80,29 @@ empty is taken for input that was lost, and nothing is written (exit status
     Page {
         name: "read",
         operands: &["FILE", "SLOT", "KEYS"],
-        options: &[],
-        usage: "FILE SLOT KEYS",
+        options: &[
+            ("--terms TERMS", "the term sheet to heed, with --on"),
+            ("--on DATE", "the day to read on, with --terms"),
+        ],
+        instead: None,
+        usage: "FILE SLOT KEYS [--terms TERMS --on DATE]",
         summary: "print a caption",
         about: "\
 Prints the caption of a slot: its bytes as they were written, with no line feed
 added. A refusal prints nothing on standard output.
+
+With --terms and --on, which go together, the caption is printed only if the
+slot is on show on DATE by the term sheet TERMS, which has as many slots as
+FILE: from the slot's opening to its closing day, both included. On any other
+day it is refused (exit status 12). Without them no term is looked at.
 ",
-        statuses: &[1, 2, 4, 5, 6, 9, 10, 65],
+        statuses: &[1, 2, 4, 5, 6, 9, 10, 11, 12, 65],
     },
     Page {
         name: "clear",
         operands: &["FILE", "SLOT"],
         options: &[WAIT],
+        instead: None,
         usage: "FILE SLOT [--wait SECONDS]",
         summary: "make a slot blank",
         about: "\
@@ -100,6 +114,7 @@ Makes a slot blank, without keys. A blank slot stays blank.
         name: "list",
         operands: &["FILE"],
         options: &[("--json", "print one JSON object")],
+        instead: None,
         usage: "FILE [--json]",
         summary: "print what each slot holds",
         about: "\
@@ -119,6 +134,7 @@ sheet doesn't have is null.
         name: "verify",
         operands: &["FILE", "KEYS"],
         options: &[("--json", "print one JSON object")],
+        instead: None,
         usage: "FILE KEYS [--json]",
         summary: "try every slot",
         about: "\
@@ -143,6 +159,7 @@ slot that isn't sound are null.
         name: "export",
         operands: &["FILE", "KEYS"],
         options: &[],
+        instead: None,
         usage: "FILE KEYS",
         summary: "print all captions as a table",
         about: "\
@@ -169,6 +186,7 @@ number, a date, a formula or a quotation, and alone for a caption of no bytes.
             ("--file NAME", "the table is in the file NAME"),
             WAIT,
         ],
+        instead: None,
         usage: "FILE KEYS [--dry-run] [--clear] [--file NAME]\n[--wait SECONDS]",
         summary: "write the captions of a table",
         about: "\
@@ -199,6 +217,7 @@ or \"clear\", old text and new text. The last line counts:
         name: "keys",
         operands: &["FILE", "BITS"],
         options: &[WAIT],
+        instead: None,
         usage: "FILE BITS [--wait SECONDS]",
         summary: "make a pair of keys",
         about: "\
@@ -209,9 +228,66 @@ overwritten (exit status 74): with its keys the captions would be lost.
         statuses: &[1, 75, 79],
     },
     Page {
+        name: "terms",
+        operands: &["FILE"],
+        options: &[("--json", "print one JSON object")],
+        instead: None,
+        usage: "FILE [--json]",
+        summary: "print when each slot is on show",
+        about: "\
+Prints the slot count of the term sheet FILE, then a line for each slot: its
+number, opening date and closing date, or \"never\":
+
+    1 2026-05-01 2026-10-31
+
+A file that isn't a term sheet is printed as \"unfit\", which is an answer: the
+exit status is 0.
+
+With --json it prints an object with the members fit (true or false), slots and
+list; list has an object for each slot, with the members slot, opening and
+closing. The dates of a slot that is never on show, and what an unfit term sheet
+doesn't have, are null.
+",
+        statuses: &[],
+    },
+    Page {
+        name: "terms-blank",
+        operands: &["FILE", "SLOTS"],
+        options: &[("--force", "blank a FILE that exists"), WAIT],
+        instead: None,
+        usage: "FILE SLOTS [--force] [--wait SECONDS]",
+        summary: "make a term sheet that shows nothing",
+        about: "\
+Makes FILE a term sheet for a sheet of SLOTS slots, 1 to 256. No slot is ever on
+show by it: nothing is shown before its dates are set.
+
+A FILE that exists is left alone (exit status 74) unless --force is given: all
+its dates would be lost.
+",
+        statuses: &[3, 75, 79],
+    },
+    Page {
+        name: "terms-set",
+        operands: &["FILE", "SLOT", "OPENING", "CLOSING"],
+        options: &[("--never", "the slot is never on show"), WAIT],
+        instead: Some(("--never", 2)),
+        usage: "FILE SLOT (OPENING CLOSING | --never)\n[--wait SECONDS]",
+        summary: "set when a slot is on show",
+        about: "\
+Sets the term of a slot in the term sheet FILE: it is on show from the date
+OPENING to the date CLOSING, both included, or with --never on no day. The sheet
+with the caption isn't looked at.
+
+An OPENING after CLOSING would mean never, and is refused as a wrong command
+line (exit status 64): it is nearly always a slip.
+",
+        statuses: &[4, 6, 11, 75, 79],
+    },
+    Page {
         name: "help",
         operands: &["COMMAND"],
         options: &[],
+        instead: None,
         usage: "[COMMAND]",
         summary: "explain a command",
         about: "\
@@ -223,7 +299,7 @@ Prints what a command does, or without COMMAND what there is. A command's own
 ];
 
 /// The exit statuses and their meanings. A refusal's begins with its word.
-const STATUSES: [(u8, &str); 17] = [
+const STATUSES: [(u8, &str); 19] = [
     (0, "done"),
     (
         1,
@@ -233,7 +309,7 @@ const STATUSES: [(u8, &str); 17] = [
     (3, "wrong span: SLOTS isn't 1 to 256"),
     (
         4,
-        "unfit sheet: FILE isn't a sheet, or a rule of the layout is broken",
+        "unfit sheet: FILE isn't a sheet, or a rule of the layout is broken;\nTERMS isn't a term sheet with as many slots",
     ),
     (
         5,
@@ -246,6 +322,14 @@ const STATUSES: [(u8, &str); 17] = [
     (
         10,
         "altered: the check differs, or what was sealed isn't a caption",
+    ),
+    (
+        11,
+        "no such date: DATE, OPENING or CLOSING isn't a date, written\nYYYY-MM-DD, from 2000-01-01 to 2099-12-31",
+    ),
+    (
+        12,
+        "not on show: DATE is before the slot's opening or after its closing day",
     ),
     (64, "the command line is wrong"),
     (65, "KEYS or the table isn't in its form"),
@@ -279,10 +363,10 @@ const OPTIONS: [(&str, &str); 3] = [
     ("--", "the words after it are no options"),
 ];
 
-const OPERANDS: [(&str, &str); 5] = [
+const OPERANDS: [(&str, &str); 7] = [
     (
         "FILE",
-        "a sheet; - is standard input where the sheet is only read",
+        "a sheet or a term sheet; - is standard input where it is only read",
     ),
     ("SLOT", "a slot of the sheet, numbered from 0"),
     ("SLOTS", "the number of slots, 1 to 256"),
@@ -290,6 +374,11 @@ const OPERANDS: [(&str, &str); 5] = [
     (
         "KEYS",
         "a file with two lines of hex digits, the sealing key and the\nchecking key; - is standard input",
+    ),
+    ("TERMS", "a term sheet; - is standard input"),
+    (
+        "DATE",
+        "a day as YYYY-MM-DD, from 2000-01-01 to 2099-12-31, as are OPENING\nand CLOSING",
     ),
 ];
 
@@ -299,6 +388,12 @@ Two keys of 8, 12 or 16 bytes, of one length and not equal. One pair of keys
 serves a sheet: nothing stops a write under another pair, and its slot is then
 altered to whoever reads with the first. A warning is given where the file of
 keys can be read or written by every user.
+
+Terms:
+A lender allows a caption only while the loan is on show. A term sheet, a file
+kept beside the sheet, has an opening and a closing day for each slot; captions
+read heeds it where it is named. It is neither sealed nor checked: whoever can
+write it can put any caption on show.
 
 Files:
 A change replaces FILE whole or not at all: whatever happens, a refusal, a full

@@ -69,7 +69,7 @@ fn slot_json(slot: usize, state: &str, mark: Option<(u32, u32)>) -> String {
 }
 
 /// An object with the member `list` as its last, each slot on a line.
-fn with_list(header: &str, slots: Vec<String>) -> String {
+pub fn with_list(header: &str, slots: Vec<String>) -> String {
     format!("{header},\"list\":[\n{}\n]}}\n", slots.join(",\n"))
 }
 

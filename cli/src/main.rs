@@ -6,8 +6,10 @@
 #![deny(unsafe_code)]
 
 mod attributes;
+mod blank_sheet;
 mod caption;
 mod commands;
+mod date;
 mod escapes;
 mod exchange;
 mod failure;
@@ -23,6 +25,7 @@ mod system;
 mod table;
 mod temporary;
 mod terminal;
+mod terms;
 mod words;
 
 use std::ffi::OsString;

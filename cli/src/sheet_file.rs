@@ -1,4 +1,4 @@
-//! The sheet's file: read, and replaced whole or not at all.
+//! The file of a sheet or a term sheet: read, and replaced whole or not at all.
 //!
 //! A changed sheet is written to a temporary file in the same folder, flushed,
 //! and renamed over the old file; then the folder is flushed. The rename is one

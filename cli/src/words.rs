@@ -12,7 +12,7 @@ pub enum Request<'a> {
     Run(&'static Page, Words<'a>),
 }
 
-/// The words of one command: as many operands as its page names, and options
+/// The words of one command: as many operands as its page allows, and options
 /// that its page has.
 pub struct Words<'a> {
     operands: Vec<&'a OsStr>,
@@ -20,7 +20,7 @@ pub struct Words<'a> {
 }
 
 impl<'a> Words<'a> {
-    /// An operand by its place. There are as many as the page names.
+    /// An operand by its place; an empty word where there is none.
     pub fn operand(&self, place: usize) -> &'a OsStr {
         self.operands.get(place).copied().unwrap_or_default()
     }
@@ -116,7 +116,8 @@ fn option<'a>(
     Err(wrong_for(page, &format!("no option {}", shown(word))))
 }
 
-/// Each option once, and as many operands as the page names.
+/// Each option once, and as many operands as the page names, or as stay beside
+/// the option that stands in place of the last.
 fn check(page: &Page, words: &Words) -> Result<(), Failure> {
     for (place, (name, _)) in words.options.iter().enumerate() {
         if words.options[..place]
@@ -126,10 +127,14 @@ fn check(page: &Page, words: &Words) -> Result<(), Failure> {
             return Err(wrong_for(page, &format!("{name} is given twice")));
         }
     }
-    let (wanted, given) = (page.operands.len(), words.operands.len());
+    let (name, given) = (page.name, words.operands.len());
+    let (name, wanted) = match page.instead {
+        Some((option, operands)) if words.has(option) => (format!("{name} {option}"), operands),
+        _ => (name.to_string(), page.operands.len()),
+    };
     if given != wanted {
         let plural = if wanted == 1 { "word" } else { "words" };
-        let message = format!("{} takes {wanted} {plural}, not {given}", page.name);
+        let message = format!("{name} takes {wanted} {plural}, not {given}");
         return Err(wrong_for(page, &message));
     }
     Ok(())

@@ -2,36 +2,56 @@
  * of the refusal.
  *
  *     cc -std=c99 -Iinclude -o show examples/c/show.c build/libcaptions_c.a
- *     ./show SHEET SLOT KEYS
+ *     ./show SHEET SLOT KEYS [TERMS DATE]
  *
  * KEYS names a file with two lines of hex digits, the sealing and the checking
- * key: words of a command line can be seen by others on the machine. Exits with
- * the number of the refusal, 64 for wrong usage, 65 where KEYS isn't two lines
- * of hex digits, 74 where a file or standard output fails. */
+ * key: words of a command line can be seen by others on the machine. With a
+ * term sheet and a date, YYYY-MM-DD, a slot is shown only while it is on show.
+ * Exits with the number of the refusal, 64 for wrong usage, 65 where KEYS isn't
+ * two lines of hex digits, 74 where a file or standard output fails. */
 #include "captions.h"
 
 #include <stdio.h>
+#include <string.h>
 
-/* One byte more than the longest key or sheet: enough for the library to see,
- * and refuse, what is too long. */
-enum { KEY_ROOM = 16 + 1, SHEET_ROOM = CAPTIONS_SHEET(CAPTIONS_SLOTS) + 1 };
+/* One byte more than the longest key, sheet or term sheet: enough for the
+ * library to see, and refuse, what is too long. */
+enum {
+    KEY_ROOM = 16 + 1,
+    SHEET_ROOM = CAPTIONS_SHEET(CAPTIONS_SLOTS) + 1,
+    TERMS_ROOM = CAPTIONS_TERMS(CAPTIONS_SLOTS) + 1
+};
 
 /* A number in decimal digits and nothing else. One above SIZE_MAX becomes
  * SIZE_MAX, which is no slot either. */
-static int slot_of(const char *text, size_t *slot)
+static int number_of(const char *text, size_t length, size_t *number)
 {
-    *slot = 0;
-    if (*text == '\0')
-        return 0;
-    for (; *text != '\0'; text++) {
-        if (*text < '0' || *text > '9')
+    size_t i;
+
+    *number = 0;
+    for (i = 0; i < length; i++) {
+        if (text[i] < '0' || text[i] > '9')
             return 0;
-        if (*slot > (SIZE_MAX - 9) / 10)
-            *slot = SIZE_MAX;
+        if (*number > (SIZE_MAX - 9) / 10)
+            *number = SIZE_MAX;
         else
-            *slot = 10 * *slot + (size_t)(*text - '0');
+            *number = 10 * *number + (size_t)(text[i] - '0');
     }
-    return 1;
+    return length > 0;
+}
+
+/* The day of a date. What is none becomes SIZE_MAX, which is no day either. */
+static size_t day_of(const char *text)
+{
+    size_t year, month, day;
+    captions_day answer;
+
+    if (strlen(text) != 10 || text[4] != '-' || text[7] != '-' ||
+        !number_of(text, 4, &year) || !number_of(text + 5, 2, &month) ||
+        !number_of(text + 8, 2, &day))
+        return SIZE_MAX;
+    answer = captions_day_of_date(year, month, day);
+    return answer.number == CAPTIONS_ACCEPTED ? answer.day : SIZE_MAX;
 }
 
 /* The value of a hex digit in either case, else -1. */
@@ -67,6 +87,21 @@ static int key_of_line(FILE *file, uint8_t key[KEY_ROOM], size_t *length)
     return 1;
 }
 
+/* The bytes of a file, as many as there is room for. */
+static int bytes_of(const char *name, uint8_t *bytes, size_t room,
+                    size_t *length)
+{
+    FILE *file = fopen(name, "rb");
+
+    if (file == NULL)
+        return 0;
+    *length = fread(bytes, 1, room, file);
+    if (ferror(file))
+        return 0;
+    fclose(file);
+    return 1;
+}
+
 static int cannot(const char *name)
 {
     perror(name);
@@ -76,15 +111,16 @@ static int cannot(const char *name)
 int main(int count, char **words)
 {
     static const char *const word[] = CAPTIONS_WORDS;
-    static uint8_t sheet[SHEET_ROOM];
+    static uint8_t sheet[SHEET_ROOM], terms[TERMS_ROOM];
     uint8_t sealing[KEY_ROOM], checking[KEY_ROOM], window[CAPTIONS_FIELD];
-    size_t slot, sheet_len, sealing_len, checking_len;
+    size_t slot, sheet_len, terms_len, sealing_len, checking_len;
     captions_answer answer;
     FILE *file;
     int two_lines;
 
-    if (count != 4 || !slot_of(words[2], &slot)) {
-        fputs("usage: show SHEET SLOT KEYS\n", stderr);
+    if ((count != 4 && count != 6) ||
+        !number_of(words[2], strlen(words[2]), &slot)) {
+        fputs("usage: show SHEET SLOT KEYS [TERMS DATE]\n", stderr);
         return 64;
     }
 
@@ -101,16 +137,18 @@ int main(int count, char **words)
         return 65;
     }
 
-    file = fopen(words[1], "rb");
-    if (file == NULL)
+    if (!bytes_of(words[1], sheet, sizeof sheet, &sheet_len))
         return cannot(words[1]);
-    sheet_len = fread(sheet, 1, sizeof sheet, file);
-    if (ferror(file))
-        return cannot(words[1]);
-    fclose(file);
-
-    answer = captions_read(sealing, sealing_len, checking, checking_len, sheet,
-                           sheet_len, slot, window, sizeof window);
+    if (count == 4) {
+        answer = captions_read(sealing, sealing_len, checking, checking_len,
+                               sheet, sheet_len, slot, window, sizeof window);
+    } else {
+        if (!bytes_of(words[4], terms, sizeof terms, &terms_len))
+            return cannot(words[4]);
+        answer = captions_dated_read(
+            sealing, sealing_len, checking, checking_len, sheet, sheet_len,
+            terms, terms_len, slot, day_of(words[5]), window, sizeof window);
+    }
     if (answer.number == CAPTIONS_ACCEPTED)
         fwrite(window, 1, answer.length, stdout);
     else

@@ -2,9 +2,10 @@
 """Shows the caption of one slot or, instead of it, the word of the refusal.
 
     make shared
-    python3 examples/python/show.py SHEET SLOT KEYS
+    python3 examples/python/show.py SHEET SLOT KEYS [TERMS DATE]
 
 KEYS names a file with two lines of hex digits, the sealing and the checking key.
+With a term sheet and a date, YYYY-MM-DD, a slot is shown only while it is on show.
 Exits with the number of the refusal, 64 for wrong usage, 65 where KEYS isn't two
 lines of hex digits, 74 where a file or standard output fails.
 """
@@ -16,9 +17,10 @@ import sys
 
 LIBRARY = pathlib.Path(__file__).resolve().parents[2] / "build" / "libcaptions_c.so"
 FIELD = 192
+SIZE_MAX = 2**64 - 1
 HEX = rb"((?:[0-9a-fA-F]{2})*)"
 WORDS = ("accepted", "wrong key", "twin keys", "wrong span", "unfit sheet", "other key class",
-         "no such slot", "overlong", "worn", "blank", "altered")
+         "no such slot", "overlong", "worn", "blank", "altered", "no such date", "not on show")
 
 
 class Answer(ctypes.Structure):
@@ -27,22 +29,46 @@ class Answer(ctypes.Structure):
     _fields_ = [("number", ctypes.c_uint8), ("length", ctypes.c_uint16)]
 
 
-def read(sealing: bytes, checking: bytes, sheet: bytes, slot: int) -> tuple[int, bytes]:
-    """The answer's number, and the caption where it is 0."""
-    call = ctypes.CDLL(str(LIBRARY)).captions_read
-    lent, size = ctypes.c_char_p, ctypes.c_size_t
-    call.argtypes = [lent, size, lent, size, lent, size, size, lent, size]
-    call.restype = Answer
+class Day(ctypes.Structure):
+    """captions_day of include/captions.h."""
+
+    _fields_ = [("number", ctypes.c_uint8), ("day", ctypes.c_uint16)]
+
+
+def call(name: str, result: type, *words) -> ctypes.Structure:
+    """What a call answers to numbers, and to bytes, which are lent with their length."""
+    types, values = [], []
+    for word in words:
+        if isinstance(word, int):
+            # A Python number has any size, and size_t would keep its low bits alone.
+            types += [ctypes.c_size_t]
+            values += [min(word, SIZE_MAX)]
+        else:
+            types += [ctypes.c_char_p, ctypes.c_size_t]
+            values += [word, len(word)]
+    function = getattr(ctypes.CDLL(str(LIBRARY)), name)
+    function.argtypes, function.restype = types, result
+    return function(*values)
+
+
+def read(name: str, *words) -> tuple[int, bytes]:
+    """The number that a read answers, and the caption where it is 0."""
     window = ctypes.create_string_buffer(FIELD)
-    # A Python number has any size, and size_t would keep its low bits alone.
-    slot = min(slot, 2**64 - 1)
-    answer = call(sealing, len(sealing), checking, len(checking), sheet, len(sheet), slot, window, FIELD)
+    answer = call(name, Answer, *words, window)
     return answer.number, window.raw[: answer.length]
 
 
+def day_of(date: str) -> int:
+    """The day of a date. What is no date becomes SIZE_MAX, which is no day either."""
+    if not re.fullmatch("[0-9]{4}-[0-9]{2}-[0-9]{2}", date):
+        return SIZE_MAX
+    answer = call("captions_day_of_date", Day, *map(int, date.split("-")))
+    return answer.day if answer.number == 0 else SIZE_MAX
+
+
 def main(words: list[str]) -> int:
-    if len(words) != 3 or not re.fullmatch("[0-9]+", words[1]):
-        print("usage: show.py SHEET SLOT KEYS", file=sys.stderr)
+    if len(words) not in (3, 5) or not re.fullmatch("[0-9]+", words[1]):
+        print("usage: show.py SHEET SLOT KEYS [TERMS DATE]", file=sys.stderr)
         return 64
     try:
         two_lines = HEX + rb"\r?\n(?!\Z)" + HEX + rb"(?:\r?\n)?"
@@ -50,8 +76,13 @@ def main(words: list[str]) -> int:
         if keys is None:
             print(f"{words[2]}: not two lines of hex digits", file=sys.stderr)
             return 65
-        sealing, checking = (bytes.fromhex(key.decode()) for key in keys.groups())
-        number, caption = read(sealing, checking, pathlib.Path(words[0]).read_bytes(), int(words[1]))
+        pair = [bytes.fromhex(key.decode()) for key in keys.groups()]
+        sheet, slot = pathlib.Path(words[0]).read_bytes(), int(words[1])
+        if len(words) == 3:
+            number, caption = read("captions_read", *pair, sheet, slot)
+        else:
+            terms, day = pathlib.Path(words[3]).read_bytes(), day_of(words[4])
+            number, caption = read("captions_dated_read", *pair, sheet, terms, slot, day)
         with open(1, "wb", closefd=False) as output:
             output.write((caption if number == 0 else WORDS[number].encode()) + b"\n")
     except OSError as error:

@@ -1,12 +1,13 @@
-//! Prints vectors, or the listing of a sheet on standard input.
+//! Prints vectors, every date, or the listing of a sheet on standard input.
 
 use reference::listing::MOST_BYTES;
-use reference::{listing, vectors};
+use reference::{calendar, listing, vectors};
 use std::io::{stdin, stdout, Read, Result, Write};
 use std::process::ExitCode;
 
 const USAGE: &str = "\
 usage: reference vectors blocks|keys|cmac|cbc|sheet
+       reference dates
        reference list < sheet
 ";
 
@@ -26,6 +27,7 @@ fn main() -> ExitCode {
         ["vectors", "cmac"] => print(vectors::cmacs().as_bytes()),
         ["vectors", "cbc"] => print(vectors::cbc().as_bytes()),
         ["vectors", "sheet"] => print(vectors::sheet().as_bytes()),
+        ["dates"] => print(calendar::all_dates().as_bytes()),
         ["list"] => list(),
         _ => {
             let _ = std::io::stderr().write_all(USAGE.as_bytes());

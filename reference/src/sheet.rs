@@ -67,7 +67,7 @@ impl Edition {
 }
 
 /// A number of up to four bytes, high byte first.
-fn number(bytes: &[u8]) -> u32 {
+pub(crate) fn number(bytes: &[u8]) -> u32 {
     bytes.iter().fold(0, |x, byte| x << 8 | u32::from(*byte))
 }
 
@@ -233,7 +233,10 @@ fn check(key: Register, write_number: u32, slot: usize, length: u16, field: &[u8
 // ---- Tests that calls share ----
 
 /// Tests 1 and 2: the sealing and the checking key.
-fn key_pair(sealing_key: &[u8], checking_key: &[u8]) -> Result<(Register, Register), u8> {
+pub(crate) fn key_pair(
+    sealing_key: &[u8],
+    checking_key: &[u8],
+) -> Result<(Register, Register), u8> {
     let sealing = Register::of_key(sealing_key).ok_or(WRONG_KEY)?;
     let checking = Register::of_key(checking_key).ok_or(WRONG_KEY)?;
     refuse_if(sealing_key.len() != checking_key.len(), WRONG_KEY)?;
@@ -242,7 +245,7 @@ fn key_pair(sealing_key: &[u8], checking_key: &[u8]) -> Result<(Register, Regist
 }
 
 /// Test 4.
-fn tested_header(sheet: &[u8]) -> Result<Header, u8> {
+pub(crate) fn tested_header(sheet: &[u8]) -> Result<Header, u8> {
     fit_header(sheet).ok_or(UNFIT_SHEET)
 }
 
@@ -348,7 +351,7 @@ fn tested_clear(sheet: &[u8], slot: usize) -> Result<Header, u8> {
 // ---- Reading ----
 
 /// What a read that meets no refusal shows.
-struct Caption {
+pub(crate) struct Caption {
     length: u16,
     window: Vec<u8>,
 }
@@ -362,7 +365,13 @@ pub fn read(
     slot: usize,
     window: &mut [u8],
 ) -> Answer {
-    match tested_read(sealing_key, checking_key, sheet, slot, window) {
+    let tested = tested_read(sealing_key, checking_key, sheet, slot, window);
+    answer_read(tested, window)
+}
+
+/// Fills the window of a read, and answers it.
+pub(crate) fn answer_read(tested: Result<Caption, u8>, window: &mut [u8]) -> Answer {
+    match tested {
         Ok(caption) => {
             window.copy_from_slice(&caption.window);
             Answer::accepted(caption.length)
@@ -381,13 +390,23 @@ fn tested_read(
     slot: usize,
     window: &[u8],
 ) -> Result<Caption, u8> {
-    let (sealing, checking) = key_pair(sealing_key, checking_key)?;
+    let keys = key_pair(sealing_key, checking_key)?;
     refuse_if(window.len() != FIELD, WRONG_SPAN)?;
     let header = tested_header(sheet)?;
     refuse_if(sealing_key.len() != 2 * header.t, OTHER_KEY_CLASS)?;
     refuse_if(slot >= header.n, NO_SUCH_SLOT)?;
     let mark = mark_of(sheet, &header, slot).ok_or(BLANK)?;
+    tested_caption(keys, sheet, &header, slot, &mark)
+}
 
+/// Test 10: the check, then the opened bytes at and past the length.
+pub(crate) fn tested_caption(
+    (sealing, checking): (Register, Register),
+    sheet: &[u8],
+    header: &Header,
+    slot: usize,
+    mark: &Mark,
+) -> Result<Caption, u8> {
     let field = &sheet[header.field_place(slot)];
     let true_check = check(checking, mark.write_number, slot, mark.length, field);
     refuse_if(mark.check != true_check, ALTERED)?;

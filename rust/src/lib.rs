@@ -2,6 +2,7 @@
 //!
 //! A sheet is a buffer of bytes with up to 256 slots, each blank or holding a
 //! caption of up to 192 bytes, sealed under one key and checked under another.
+//! A term sheet beside it says when each slot is on show ([`dated_read`]).
 //! Everything that decides is in the proved library; this crate lends it slices
 //! and gives its answers Rust's types. Any length and any number may be given:
 //! what the library can't use, it refuses. Nothing here panics.
@@ -32,9 +33,11 @@
 
 #![warn(missing_docs)]
 
+mod date;
 mod library;
 mod refusal;
 
+pub use date::Date;
 use library::Answer;
 pub use refusal::Refusal;
 
@@ -52,6 +55,8 @@ pub const FIELD: usize = 192;
 pub const SLOTS: usize = 256;
 /// The bytes of the longest listing.
 pub const LISTING: usize = 6836;
+/// The last day, 2099-12-31; day 0 is 2000-01-01.
+pub const LAST_DAY: u16 = 36524;
 
 /// The bytes of a sheet with that many slots; `usize::MAX` where that is less.
 ///
@@ -61,6 +66,22 @@ pub const LISTING: usize = 6836;
 /// ```
 pub const fn sheet_len(slots: usize) -> usize {
     slots.saturating_mul(MARK + FIELD).saturating_add(HEADER)
+}
+
+/// The bytes of a term sheet for a sheet with that many slots; `usize::MAX`
+/// where that is less.
+///
+/// A term sheet is the slot count, the opening days of all slots, then the
+/// closing days, each number 2 bytes, high byte first. A slot is on show from
+/// its opening to its closing day, both included; where the opening is above
+/// the closing day, never.
+///
+/// ```
+/// assert_eq!(captions::terms_len(1), 6);
+/// assert_eq!(captions::terms_len(captions::SLOTS), 1026);
+/// ```
+pub const fn terms_len(slots: usize) -> usize {
+    slots.saturating_mul(2 + 2).saturating_add(2)
 }
 
 /// Seals (encrypts) one block of 8 bytes into `out`, 8 bytes too.
@@ -251,6 +272,92 @@ pub fn read(
     accepted(answer).map(usize::from)
 }
 
+/// Reads a slot as [`read`] does, if the slot is on show on a day by the term
+/// sheet, [`terms_len`] bytes for the sheet's slots. Gives the caption's length.
+///
+/// # Errors
+///
+/// In the order of the tests: [`Refusal::WrongKey`], [`Refusal::TwinKeys`],
+/// [`Refusal::WrongSpan`], [`Refusal::UnfitSheet`] (the sheet, then the term
+/// sheet), [`Refusal::OtherKeyClass`], [`Refusal::NoSuchDate`],
+/// [`Refusal::NoSuchSlot`], [`Refusal::Blank`], [`Refusal::NotOnShow`] and
+/// [`Refusal::Altered`]; every byte of the window is then zero, whatever its
+/// length.
+///
+/// ```
+/// use captions::{blank, dated_read, day_of_date, sheet_len, write, Refusal, FIELD};
+///
+/// let mut sheet = vec![0; sheet_len(1)];
+/// blank(&mut sheet, 1, 4)?;
+/// write(&[1; 8], &[2; 8], &mut sheet, 0, b"Clock")?;
+/// let (opening, closing) = (day_of_date(2026, 5, 1)?, day_of_date(2026, 10, 31)?);
+/// let terms = [1, opening, closing].map(u16::to_be_bytes).concat();
+///
+/// let mut window = [0xff; FIELD];
+/// let mut on = |day: u16| {
+///     dated_read(&[1; 8], &[2; 8], &sheet, &terms, 0, day.into(), &mut window)
+/// };
+/// assert_eq!(on(opening), Ok(5));
+/// assert_eq!(on(closing), Ok(5));
+/// assert_eq!(on(closing + 1), Err(Refusal::NotOnShow));
+/// assert_eq!(window, [0; FIELD]);
+/// # Ok::<(), Refusal>(())
+/// ```
+pub fn dated_read(
+    sealing_key: &[u8],
+    checking_key: &[u8],
+    sheet: &[u8],
+    terms: &[u8],
+    slot: usize,
+    day: usize,
+    window: &mut [u8],
+) -> Result<usize, Refusal> {
+    let answer = library::dated_read(sealing_key, checking_key, sheet, terms, slot, day, window);
+    accepted(answer).map(usize::from)
+}
+
+/// The day of a date of the Gregorian calendar, from 2000-01-01, day 0, to
+/// 2099-12-31, [`LAST_DAY`].
+///
+/// # Errors
+///
+/// [`Refusal::NoSuchDate`].
+///
+/// ```
+/// use captions::{day_of_date, Refusal, LAST_DAY};
+///
+/// assert_eq!(day_of_date(2000, 1, 1), Ok(0));
+/// assert_eq!(day_of_date(2099, 12, 31), Ok(LAST_DAY));
+/// assert_eq!(day_of_date(2026, 2, 29), Err(Refusal::NoSuchDate));
+/// ```
+pub fn day_of_date(year: usize, month: usize, day: usize) -> Result<u16, Refusal> {
+    let answer = library::day_of_date(year, month, day);
+    unless_refused(answer.number, answer.day)
+}
+
+/// The date of a day from 0 to [`LAST_DAY`].
+///
+/// # Errors
+///
+/// [`Refusal::NoSuchDate`].
+///
+/// ```
+/// use captions::{date_of_day, Refusal};
+///
+/// assert_eq!(date_of_day(9800)?.to_string(), "2026-10-31");
+/// assert_eq!(date_of_day(36525), Err(Refusal::NoSuchDate));
+/// # Ok::<(), Refusal>(())
+/// ```
+pub fn date_of_day(day: usize) -> Result<Date, Refusal> {
+    let answer = library::date_of_day(day);
+    let date = Date {
+        year: answer.year,
+        month: answer.month,
+        day: answer.day,
+    };
+    unless_refused(answer.number, date)
+}
+
 /// The listing of a sheet: slot count, key bits and last write number, then a
 /// line for each slot. An unfit sheet is listed as `unfit`.
 ///
@@ -269,12 +376,17 @@ pub fn list(sheet: &[u8]) -> Vec<u8> {
     listing
 }
 
-/// The length that an accepted call answers, or the refusal.
-fn accepted(answer: Answer) -> Result<u16, Refusal> {
-    match Refusal::of_number(answer.number) {
-        None => Ok(answer.length),
+/// What a call answers beside its number, or the refusal.
+fn unless_refused<T>(number: u8, value: T) -> Result<T, Refusal> {
+    match Refusal::of_number(number) {
+        None => Ok(value),
         Some(refusal) => Err(refusal),
     }
+}
+
+/// The length that an accepted call answers, or the refusal.
+fn accepted(answer: Answer) -> Result<u16, Refusal> {
+    unless_refused(answer.number, answer.length)
 }
 
 /// An accepted call that has no length to give, or the refusal.

@@ -11,8 +11,24 @@ pub struct Answer {
     pub length: u16,
 }
 
+/// `captions_day`.
+#[repr(C)]
+pub struct Day {
+    pub number: u8,
+    pub day: u16,
+}
+
+/// `captions_date`.
+#[repr(C)]
+pub struct Date {
+    pub number: u8,
+    pub year: u16,
+    pub month: u8,
+    pub day: u8,
+}
+
 mod c {
-    use super::Answer;
+    use super::{Answer, Date, Day};
 
     extern "C" {
         pub fn captions_encrypt_block(
@@ -70,6 +86,22 @@ mod c {
             window: *mut u8,
             window_len: usize,
         ) -> Answer;
+        pub fn captions_dated_read(
+            sealing_key: *const u8,
+            sealing_len: usize,
+            checking_key: *const u8,
+            checking_len: usize,
+            sheet: *const u8,
+            sheet_len: usize,
+            terms: *const u8,
+            terms_len: usize,
+            slot: usize,
+            day: usize,
+            window: *mut u8,
+            window_len: usize,
+        ) -> Answer;
+        pub fn captions_day_of_date(year: usize, month: usize, day: usize) -> Day;
+        pub fn captions_date_of_day(day: usize) -> Date;
         pub fn captions_list(
             sheet: *const u8,
             sheet_len: usize,
@@ -177,6 +209,44 @@ pub fn read(
             window.len(),
         )
     }
+}
+
+pub fn dated_read(
+    sealing_key: &[u8],
+    checking_key: &[u8],
+    sheet: &[u8],
+    terms: &[u8],
+    slot: usize,
+    day: usize,
+    window: &mut [u8],
+) -> Answer {
+    // SAFETY: as at the head of this file.
+    unsafe {
+        c::captions_dated_read(
+            sealing_key.as_ptr(),
+            sealing_key.len(),
+            checking_key.as_ptr(),
+            checking_key.len(),
+            sheet.as_ptr(),
+            sheet.len(),
+            terms.as_ptr(),
+            terms.len(),
+            slot,
+            day,
+            window.as_mut_ptr(),
+            window.len(),
+        )
+    }
+}
+
+pub fn day_of_date(year: usize, month: usize, day: usize) -> Day {
+    // SAFETY: numbers alone, any of which may be given.
+    unsafe { c::captions_day_of_date(year, month, day) }
+}
+
+pub fn date_of_day(day: usize) -> Date {
+    // SAFETY: a number alone, and any may be given.
+    unsafe { c::captions_date_of_day(day) }
 }
 
 pub fn list(sheet: &[u8], out: &mut [u8]) -> usize {

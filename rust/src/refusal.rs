@@ -22,7 +22,9 @@ pub enum Refusal {
     /// isn't 192; blanking: the slots aren't 1 to 256 or the buffer has another
     /// length.
     WrongSpan,
-    /// 4: shorter than 8 bytes, or any rule of the layout broken, in any slot.
+    /// 4: shorter than 8 bytes, or any rule of the layout broken, in any slot; a
+    /// term sheet with another slot count than the sheet's, another length or a
+    /// day above [`LAST_DAY`](crate::LAST_DAY), in any slot.
     UnfitSheet,
     /// 5: the keys have another length than the sheet's.
     OtherKeyClass,
@@ -37,13 +39,18 @@ pub enum Refusal {
     /// 10: the check differs, or an opened byte at or past the length isn't
     /// zero.
     Altered,
+    /// 11: a year, month and day that are no date from 2000-01-01 to 2099-12-31,
+    /// or a day above [`LAST_DAY`](crate::LAST_DAY).
+    NoSuchDate,
+    /// 12: a dated read before the slot's opening day or after its closing day.
+    NotOnShow,
     /// A number that this crate has no word for, shown as "refused". The library
     /// never gives one: this is what stands in for a panic if it did.
     Other(u8),
 }
 
-/// The refusals that have a word, in the order of their numbers, 1 to 10.
-const WORDS: [(Refusal, &str); 10] = [
+/// The refusals that have a word, in the order of their numbers, 1 to 12.
+const WORDS: [(Refusal, &str); 12] = [
     (Refusal::WrongKey, "wrong key"),
     (Refusal::TwinKeys, "twin keys"),
     (Refusal::WrongSpan, "wrong span"),
@@ -54,6 +61,8 @@ const WORDS: [(Refusal, &str); 10] = [
     (Refusal::Worn, "worn"),
     (Refusal::Blank, "blank"),
     (Refusal::Altered, "altered"),
+    (Refusal::NoSuchDate, "no such date"),
+    (Refusal::NotOnShow, "not on show"),
 ];
 
 impl Refusal {
@@ -90,6 +99,8 @@ impl Refusal {
             Refusal::Worn => 8,
             Refusal::Blank => 9,
             Refusal::Altered => 10,
+            Refusal::NoSuchDate => 11,
+            Refusal::NotOnShow => 12,
             Refusal::Other(number) => number,
         }
     }

@@ -2,7 +2,7 @@
 
 use captions::Refusal;
 
-const WORDS: [&str; 10] = [
+const WORDS: [&str; 12] = [
     "wrong key",
     "twin keys",
     "wrong span",
@@ -13,6 +13,8 @@ const WORDS: [&str; 10] = [
     "worn",
     "blank",
     "altered",
+    "no such date",
+    "not on show",
 ];
 
 #[test]

@@ -54,7 +54,7 @@ impl Random {
 
 /// How often each answer was met, so that a test can see that it met them all.
 #[derive(Default)]
-struct Met([usize; 11]);
+struct Met([usize; 13]);
 
 impl Met {
     /// Compares an answer with the second program's.
@@ -72,9 +72,9 @@ impl Met {
     }
 
     fn all_of(&self, numbers: &[usize]) {
-        let met: Vec<usize> = (0..11).filter(|number| self.0[*number] > 0).collect();
+        let met: Vec<usize> = (0..13).filter(|number| self.0[*number] > 0).collect();
         assert_eq!(met, numbers);
-        println!("answers 0 to 10 met so often: {:?}", self.0);
+        println!("answers 0 to 12 met so often: {:?}", self.0);
     }
 }
 
@@ -210,6 +210,90 @@ fn pair(random: &mut Random, keys: &[Vec<u8>; 2]) -> [Vec<u8>; 2] {
         1 => [keys[0].clone(), keys[0].clone()],
         2 => [random.bytes(8), random.bytes(8)],
         _ => keys.clone(),
+    }
+}
+
+/// Reads of a slot on a day, by terms about that day, now and then unfit.
+#[test]
+fn dated_reads() {
+    let mut random = Random(5);
+    let mut met = Met::default();
+    for edition in Edition::ALL {
+        for _ in 0..200 {
+            dated_reads_of_a_sheet(&mut random, edition, &mut met);
+        }
+    }
+    met.all_of(&[0, 1, 2, 3, 4, 5, 6, 9, 10, 11, 12]);
+}
+
+fn dated_reads_of_a_sheet(random: &mut Random, edition: Edition, met: &mut Met) {
+    let (slots, key_words) = (1 + random.below(5), random.pick(&[4, 6, 8]));
+    let keys = random.keys(edition, key_words);
+    let mut sheet = edition.blank_sheet(slots, key_words);
+    for slot in 0..slots.max(2) - 1 {
+        captions::write(&keys[0], &keys[1], &mut sheet, slot, b"Clock").unwrap();
+    }
+    for _ in 0..20 {
+        let day = random.pick(&[0, 1, 9000, 36523, 36524, 36525, usize::MAX]);
+        let mut terms = (slots as u16).to_be_bytes().to_vec();
+        for _ in 0..2 * slots {
+            let near = random.pick(&[0, 0, 8999, 9000, 9001, 36524, 36524]);
+            terms.extend((near as u16).to_be_bytes());
+        }
+        match random.below(12) {
+            0 => terms[1] ^= 1,
+            1 => terms.truncate(terms.len() - 1),
+            2 => terms.push(0),
+            3 => terms[2 * slots..][..2].copy_from_slice(&36525_u16.to_be_bytes()),
+            4 => sheet[edition.mark_place(0)][15] ^= 1,
+            _ => (),
+        }
+        let slot = random.pick(&[0, 0, slots - 1, slots - 1, slots, usize::MAX]);
+        let [sealing, checking] = pair(random, &keys);
+        let length = random.pick(&[FIELD, FIELD, FIELD, FIELD, 0, 191, 193]);
+        let (mut window, mut expected) = (vec![7; length], vec![7; length]);
+        let answer =
+            captions::dated_read(&sealing, &checking, &sheet, &terms, slot, day, &mut window);
+        met.compare(
+            answer,
+            reference::dated_read(
+                &sealing,
+                &checking,
+                &sheet,
+                &terms,
+                slot,
+                day,
+                &mut expected,
+            ),
+        );
+        assert_eq!(window, expected);
+    }
+}
+
+/// Numbers about the edges of a date, each with each, and days about the ends.
+#[test]
+fn conversions() {
+    let years = [0, 1999, 2000, 2001, 2004, 2099, 2100, 67536, usize::MAX];
+    for year in years {
+        for month in (0..=13).chain([256, usize::MAX]) {
+            for day in (0..=32).chain([256, usize::MAX]) {
+                let expected = reference::day_of_date(year, month, day);
+                match captions::day_of_date(year, month, day) {
+                    Ok(number) => assert_eq!((0, number), (expected.number, expected.day)),
+                    Err(refusal) => assert_eq!(refusal.number(), expected.number),
+                }
+            }
+        }
+    }
+    for day in (0..=36530).chain([65535, 65536, usize::MAX]) {
+        let expected = reference::date_of_day(day);
+        match captions::date_of_day(day) {
+            Ok(date) => {
+                let expected = (expected.year, expected.month, expected.day);
+                assert_eq!((date.year, date.month, date.day), expected);
+            }
+            Err(refusal) => assert_eq!(refusal.number(), expected.number),
+        }
     }
 }
 

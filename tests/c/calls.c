@@ -334,6 +334,187 @@ static void read_refusals(void)
     CHECK(memcmp(window, "Clock", 5) == 0);
 }
 
+/* ---- Days and terms ---- */
+
+static int is_day(captions_day answer, int number, int day)
+{
+    return answer.number == number && answer.day == day;
+}
+
+static int is_date(captions_date answer, int number, int year, int month,
+                   int day)
+{
+    return answer.number == number && answer.year == year &&
+           answer.month == month && answer.day == day;
+}
+
+/* Every day of the range, each date found from the one before. */
+static void days_and_dates(void)
+{
+    static const size_t lengths[] = {31, 28, 31, 30, 31, 30,
+                                     31, 31, 30, 31, 30, 31};
+    size_t year = 2000, month = 1, day = 1, count;
+    for (count = 0; count <= CAPTIONS_LAST_DAY; count++) {
+        int leap = (year % 4 == 0 && year % 100 != 0) || year % 400 == 0;
+        CHECK(is_day(captions_day_of_date(year, month, day), 0, (int)count));
+        CHECK(is_date(captions_date_of_day(count), 0, (int)year, (int)month,
+                      (int)day));
+        if (day++ == lengths[month - 1] + (month == 2 && leap)) {
+            CHECK(is_day(captions_day_of_date(year, month, day),
+                         CAPTIONS_NO_SUCH_DATE, 0));
+            day = 1;
+            month = month % 12 + 1;
+            year += month == 1;
+        }
+    }
+    CHECK(year == 2100 && month == 1 && day == 1);
+}
+
+static void no_such_dates(void)
+{
+    static const size_t dates[][3] = {
+        {1999, 12, 31}, {2100, 1, 1},   {2026, 0, 1},
+        {2026, 13, 1},  {2026, 1, 0},   {2026, 1, 32},
+        {2026, 2, 29},  {2028, 2, 30},  {2000, 1, 366},
+        {26, 1, 1},     {0, 0, 0},      {67562, 1, 1},
+        {2026, 257, 1}, {2026, 1, 257}, {(size_t)-1, 1, 1},
+    };
+    static const size_t days[] = {36525, 65535, 65536, (size_t)-1};
+    size_t i;
+    for (i = 0; i < sizeof dates / sizeof dates[0]; i++)
+        CHECK(is_day(captions_day_of_date(dates[i][0], dates[i][1],
+                                          dates[i][2]),
+                     CAPTIONS_NO_SUCH_DATE, 0));
+    for (i = 0; i < sizeof days / sizeof days[0]; i++)
+        CHECK(is_date(captions_date_of_day(days[i]), CAPTIONS_NO_SUCH_DATE, 0,
+                      0, 0));
+}
+
+#define TERMS CAPTIONS_TERMS(SLOTS)
+#define OPENING 9617
+#define CLOSING 9800
+
+static void put_number(uint8_t *terms, size_t place, unsigned number)
+{
+    terms[2 * place] = (uint8_t)(number >> 8);
+    terms[2 * place + 1] = (uint8_t)number;
+}
+
+/* Slot 0 is always on show, slot 1 from OPENING to CLOSING, slot 2 never. */
+static void make_terms(uint8_t *terms)
+{
+    static const unsigned numbers[] = {
+        SLOTS, 0, OPENING, CAPTIONS_LAST_DAY, CAPTIONS_LAST_DAY, CLOSING, 0};
+    size_t i;
+    for (i = 0; i < sizeof numbers / sizeof numbers[0]; i++)
+        put_number(terms, i, numbers[i]);
+}
+
+/* Whether a dated read of that many window bytes is refused with this number
+ * and zeroes them all, and no other lent byte. */
+static int dated_refused(int number, size_t key_len, const uint8_t *other_key,
+                         const uint8_t *sheet, size_t sheet_len,
+                         const uint8_t *terms, size_t terms_len, size_t slot,
+                         size_t day, size_t window_len)
+{
+    uint8_t window[CAPTIONS_FIELD + 2];
+    captions_answer answer;
+    memset(window, UNTOUCHED, sizeof window);
+    answer = captions_dated_read(sealing, key_len, other_key, key_len, sheet,
+                                 sheet_len, terms, terms_len, slot, day,
+                                 window, window_len);
+    return refused(answer, number) && all(window, window_len, 0) &&
+           all(window + window_len, sizeof window - window_len, UNTOUCHED);
+}
+
+static int shown(const uint8_t *sheet, const uint8_t *terms, size_t day)
+{
+    uint8_t window[CAPTIONS_FIELD];
+    captions_answer answer;
+    memset(window, UNTOUCHED, sizeof window);
+    answer = captions_dated_read(sealing, 8, checking, 8, sheet, SHEET, terms,
+                                 TERMS, 1, day, window, sizeof window);
+    return is(answer, CAPTIONS_ACCEPTED, 5) &&
+           memcmp(window, "Clock", 5) == 0 && all(window + 5, 187, 0);
+}
+
+static void dated_reads(void)
+{
+    uint8_t sheet[SHEET], terms[TERMS + 1] = {0};
+    make_sheet(sheet);
+    make_terms(terms);
+    CHECK(TERMS == 14 && CAPTIONS_TERMS(CAPTIONS_SLOTS) == 1026);
+    CHECK(shown(sheet, terms, OPENING));
+    CHECK(shown(sheet, terms, CLOSING));
+    CHECK(dated_refused(CAPTIONS_NOT_ON_SHOW, 8, checking, sheet, SHEET, terms,
+                        TERMS, 1, OPENING - 1, 192));
+    CHECK(dated_refused(CAPTIONS_NOT_ON_SHOW, 8, checking, sheet, SHEET, terms,
+                        TERMS, 1, CLOSING + 1, 192));
+    put_number(terms, 2, CLOSING);
+    CHECK(shown(sheet, terms, CLOSING));
+    put_number(terms, 2, CLOSING + 1);
+    CHECK(dated_refused(CAPTIONS_NOT_ON_SHOW, 8, checking, sheet, SHEET, terms,
+                        TERMS, 1, CLOSING, 192));
+    CHECK(dated_refused(CAPTIONS_NOT_ON_SHOW, 8, checking, sheet, SHEET, terms,
+                        TERMS, 1, CLOSING + 1, 192));
+    put_number(terms, 2, 0);
+    put_number(terms, 5, CAPTIONS_LAST_DAY);
+    CHECK(shown(sheet, terms, 0));
+    CHECK(shown(sheet, terms, CAPTIONS_LAST_DAY));
+}
+
+/* In the order of the tests; what stands later in it is wrong too. */
+static void dated_read_refusals(void)
+{
+    uint8_t sheet[SHEET], terms[TERMS + 1] = {0};
+    size_t field = CAPTIONS_HEADER + CAPTIONS_MARK * SLOTS + CAPTIONS_FIELD;
+    size_t place;
+    make_sheet(sheet);
+    make_terms(terms);
+    CHECK(dated_refused(CAPTIONS_WRONG_KEY, 7, sealing, sheet, 0, terms, 0,
+                        SLOTS, (size_t)-1, 191));
+    CHECK(dated_refused(CAPTIONS_TWIN_KEYS, 12, sealing, sheet, 0, terms, 0,
+                        SLOTS, (size_t)-1, 191));
+    CHECK(dated_refused(CAPTIONS_WRONG_SPAN, 12, checking, sheet, 0, terms, 0,
+                        SLOTS, (size_t)-1, 191));
+    CHECK(dated_refused(CAPTIONS_WRONG_SPAN, 8, checking, sheet, SHEET, terms,
+                        TERMS, 1, OPENING, 193));
+    CHECK(dated_refused(CAPTIONS_WRONG_SPAN, 8, checking, sheet, SHEET, terms,
+                        TERMS, 1, OPENING, 0));
+    CHECK(dated_refused(CAPTIONS_UNFIT_SHEET, 12, checking, sheet, SHEET - 1,
+                        terms, TERMS, SLOTS, (size_t)-1, 192));
+    CHECK(dated_refused(CAPTIONS_UNFIT_SHEET, 12, checking, sheet, SHEET,
+                        terms, TERMS - 1, SLOTS, (size_t)-1, 192));
+    CHECK(dated_refused(CAPTIONS_UNFIT_SHEET, 8, checking, sheet, SHEET, terms,
+                        TERMS + 1, 1, OPENING, 192));
+    CHECK(dated_refused(CAPTIONS_UNFIT_SHEET, 8, checking, sheet, SHEET, terms,
+                        0, 1, OPENING, 192));
+    for (place = 0; place < TERMS / 2; place++) {
+        /* Another slot count; a day past the last, in each slot. */
+        put_number(terms, place, place == 0 ? SLOTS + 1 : 36525);
+        CHECK(dated_refused(CAPTIONS_UNFIT_SHEET, 8, checking, sheet, SHEET,
+                            terms, TERMS, 1, OPENING, 192));
+        make_terms(terms);
+    }
+    CHECK(dated_refused(CAPTIONS_OTHER_KEY_CLASS, 12, checking, sheet, SHEET,
+                        terms, TERMS, SLOTS, 36525, 192));
+    CHECK(dated_refused(CAPTIONS_NO_SUCH_DATE, 8, checking, sheet, SHEET,
+                        terms, TERMS, SLOTS, 36525, 192));
+    CHECK(dated_refused(CAPTIONS_NO_SUCH_DATE, 8, checking, sheet, SHEET,
+                        terms, TERMS, 1, (size_t)-1, 192));
+    CHECK(dated_refused(CAPTIONS_NO_SUCH_SLOT, 8, checking, sheet, SHEET,
+                        terms, TERMS, SLOTS, OPENING, 192));
+    CHECK(dated_refused(CAPTIONS_BLANK, 8, checking, sheet, SHEET, terms,
+                        TERMS, 2, OPENING, 192));
+    sheet[field] ^= 1;
+    CHECK(dated_refused(CAPTIONS_NOT_ON_SHOW, 8, checking, sheet, SHEET, terms,
+                        TERMS, 1, 0, 192));
+    CHECK(dated_refused(CAPTIONS_ALTERED, 8, checking, sheet, SHEET, terms,
+                        TERMS, 1, OPENING, 192));
+}
+
+/* ---- Listings and words ---- */
+
 /* The listing, in an output of exactly its size, a larger one, one too small. */
 static void listed(const uint8_t *sheet, size_t sheet_len, const char *text)
 {
@@ -387,13 +568,19 @@ static void listing(void)
 static void words(void)
 {
     static const char *const word[] = CAPTIONS_WORDS;
-    CHECK(sizeof word / sizeof word[0] == CAPTIONS_ALTERED + 1);
+    CHECK(sizeof word / sizeof word[0] == CAPTIONS_NOT_ON_SHOW + 1);
     CHECK(strcmp(word[CAPTIONS_WRONG_KEY], "wrong key") == 0);
     CHECK(strcmp(word[CAPTIONS_UNFIT_SHEET], "unfit sheet") == 0);
     CHECK(strcmp(word[CAPTIONS_WORN], "worn") == 0);
     CHECK(strcmp(word[CAPTIONS_ALTERED], "altered") == 0);
+    CHECK(strcmp(word[CAPTIONS_NO_SUCH_DATE], "no such date") == 0);
+    CHECK(strcmp(word[CAPTIONS_NOT_ON_SHOW], "not on show") == 0);
     CHECK(sizeof(captions_answer) == 4);
     CHECK(offsetof(captions_answer, length) == 2);
+    CHECK(sizeof(captions_day) == 4 && offsetof(captions_day, day) == 2);
+    CHECK(sizeof(captions_date) == 6 && offsetof(captions_date, year) == 2);
+    CHECK(offsetof(captions_date, month) == 4);
+    CHECK(offsetof(captions_date, day) == 5);
     CHECK(CAPTIONS_SHEET(1) == 216 && CAPTIONS_SHEET(256) == 53256);
 }
 
@@ -410,6 +597,10 @@ int main(void)
     write_refusals();
     clear_refusals();
     read_refusals();
+    days_and_dates();
+    no_such_dates();
+    dated_reads();
+    dated_read_refusals();
     listing();
     words();
     if (failures != 0) {

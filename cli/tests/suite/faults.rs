@@ -55,6 +55,9 @@ impl Place {
         let old = written(&blank_sheet(256, 4), 8, 7, b"Vase, 1752");
         let table = self.scratch.join("table");
         fs::write(&table, "slot\ttext\n7\t\n0\tVase, 1751\n").unwrap();
+        let never = [(36524, 0); 256];
+        let mut terms = never;
+        terms[7] = (9617, 9800);
         vec![
             Change {
                 words: words!["write", file, "7", keys].to_vec(),
@@ -79,6 +82,16 @@ impl Place {
             Change {
                 words: words!["blank", file, "20", "96"].to_vec(),
                 new: blank_sheet(20, 6),
+                old: None,
+            },
+            Change {
+                words: words!["terms-set", file, "7", "2026-05-01", "2026-10-31"].to_vec(),
+                new: term_sheet(&terms),
+                old: Some(term_sheet(&never)),
+            },
+            Change {
+                words: words!["terms-blank", file, "256"].to_vec(),
+                new: term_sheet(&never),
                 old: None,
             },
         ]

@@ -4,8 +4,20 @@
 use crate::support::*;
 use crate::words;
 
-const COMMANDS: [&str; 10] = [
-    "blank", "write", "read", "clear", "list", "verify", "export", "import", "keys", "help",
+const COMMANDS: [&str; 13] = [
+    "blank",
+    "write",
+    "read",
+    "clear",
+    "list",
+    "verify",
+    "export",
+    "import",
+    "keys",
+    "terms",
+    "terms-blank",
+    "terms-set",
+    "help",
 ];
 
 fn printed(words: &[&str]) -> String {
@@ -71,7 +83,7 @@ fn help_has_one_form() {
         }
         let given = usage.split_whitespace().skip(3);
         let given = given
-            .map(|word| word.trim_matches(['[', ']']))
+            .map(|word| word.trim_matches(['[', ']', '(', ')']))
             .filter(|word| *word != "|");
         assert_eq!(given.collect::<Vec<_>>(), expected);
         let statuses = items(&help, "Exit status");
@@ -87,13 +99,13 @@ fn help_has_one_form() {
 fn help_has_every_status_and_what_a_sheet_cannot_tell() {
     let all = printed(&["help"]);
     let statuses = items(&all, "Exit status");
-    for number in 1..=10 {
+    for number in 1..=12 {
         let refusal = captions::Refusal::of_number(number).unwrap();
         let (term, text) = &statuses[usize::from(number)];
         assert_eq!(*term, number.to_string());
         assert!(text.starts_with(&format!("{refusal}: ")));
     }
-    let others: Vec<&str> = statuses[11..]
+    let others: Vec<&str> = statuses[13..]
         .iter()
         .map(|(term, _)| term.as_str())
         .collect();
@@ -103,6 +115,7 @@ fn help_has_every_status_and_what_a_sheet_cannot_tell() {
         "An old sheet put back in the place of a newer one is a sound sheet",
         "two changes at once can lose one of the two",
         "after a day where another machine made it",
+        "neither sealed nor checked",
     ] {
         assert!(all.contains(words), "{words}");
     }

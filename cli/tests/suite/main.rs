@@ -14,6 +14,7 @@ mod streams;
 mod support;
 mod table;
 mod terminal;
+mod terms;
 mod together;
 mod usage;
 mod waiting;

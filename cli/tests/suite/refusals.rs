@@ -1,5 +1,5 @@
 //! Each refusal by each command that can meet it: number, word, exit status,
-//! and a file that is left alone.
+//! and a file that is left alone. Those of term sheets are in `terms`.
 
 use crate::support::*;
 use crate::words;

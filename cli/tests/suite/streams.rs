@@ -16,12 +16,26 @@ fn sheet(scratch: &Scratch) -> (std::path::PathBuf, std::path::PathBuf) {
 
 fn every_printing_command(scratch: &Scratch) -> Vec<Vec<std::ffi::OsString>> {
     let (file, keys) = sheet(scratch);
-    let table = scratch.join("table");
+    let (table, terms) = (scratch.join("table"), scratch.join("terms"));
     fs::write(&table, "slot\ttext\n0\tClock\n").unwrap();
+    fs::write(&terms, term_sheet(&[(0, 36524), (36524, 0)])).unwrap();
     vec![
         words!["list", file].to_vec(),
         words!["list", file, "--json"].to_vec(),
+        words!["terms", terms].to_vec(),
+        words!["terms", terms, "--json"].to_vec(),
         words!["read", file, "0", keys].to_vec(),
+        words![
+            "read",
+            file,
+            "0",
+            keys,
+            "--terms",
+            terms,
+            "--on",
+            "2026-05-01"
+        ]
+        .to_vec(),
         words!["verify", file, keys].to_vec(),
         words!["verify", file, keys, "--json"].to_vec(),
         words!["export", file, keys].to_vec(),

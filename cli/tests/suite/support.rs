@@ -133,6 +133,15 @@ pub fn cleared(sheet: &[u8], slot: usize) -> Vec<u8> {
     sheet
 }
 
+/// A term sheet by the opening and closing days of its slots.
+pub fn term_sheet(terms: &[(u16, u16)]) -> Vec<u8> {
+    let openings = terms.iter().map(|term| term.0);
+    let closings = terms.iter().map(|term| term.1);
+    let numbers = std::iter::once(terms.len() as u16);
+    let numbers = numbers.chain(openings).chain(closings);
+    numbers.flat_map(u16::to_be_bytes).collect()
+}
+
 /// What a run of the command came to.
 #[derive(Debug, PartialEq, Eq)]
 pub struct Run {

@@ -108,6 +108,25 @@ fn a_hint_is_for_a_terminal_alone() {
     assert_eq!((status, shown.trim_end()), (6, "6 no such slot"));
 }
 
+/// Dates are written in many ways: which one is taken is told at a terminal.
+#[test]
+fn a_hint_at_a_dates_form() {
+    let scratch = Scratch::new();
+    let (file, keys) = (scratch.sheet("sheet", 1, 4), scratch.keys(8));
+    let terms = scratch.join("terms");
+    fs::write(&terms, term_sheet(&[(36524, 0)])).unwrap();
+    let hint = "captions: a date is YYYY-MM-DD, from 2000-01-01 to 2099-12-31";
+    for words in [
+        words!["terms-set", terms, "0", "01.05.2026", "31.10.2026"].to_vec(),
+        words!["read", file, "0", keys, "--terms", terms, "--on", "5/1/2026"].to_vec(),
+    ] {
+        let (status, shown) = at_a_terminal(&words, b"");
+        let lines: Vec<&str> = shown.lines().collect();
+        assert_eq!((status, lines), (11, vec![hint, "11 no such date"]));
+        run(&words).refused(11, "no such date");
+    }
+}
+
 #[test]
 fn a_table_typed_at_a_terminal() {
     let scratch = Scratch::new();

@@ -5,7 +5,7 @@ use crate::words;
 use std::fs;
 
 /// Each command with the number of its operands.
-const COMMANDS: [(&str, usize); 9] = [
+const COMMANDS: [(&str, usize); 12] = [
     ("blank", 3),
     ("write", 3),
     ("read", 3),
@@ -15,6 +15,9 @@ const COMMANDS: [(&str, usize); 9] = [
     ("export", 2),
     ("import", 2),
     ("keys", 2),
+    ("terms", 1),
+    ("terms-blank", 2),
+    ("terms-set", 4),
 ];
 
 #[test]
@@ -29,20 +32,20 @@ fn a_wrong_command_line_is_64() {
         let usage = format!("usage: captions {name} FILE");
         for count in (0..6).filter(|count| *count != operands) {
             let mut words = vec![name];
-            words.resize(1 + count, "1");
+            words.resize(1 + count, "0");
             run(&words).failed(64, &usage);
         }
         for option in ["--quick", "-f", "-1", "--forc", "--", "--=", "--force=yes"] {
             let mut words = vec![name, option];
-            words.resize(2 + operands, "1");
+            words.resize(2 + operands, "0");
             let run = run(&words);
             if option != "--" {
                 run.failed(64, "says more");
             }
         }
-        if name != "blank" {
+        if !["blank", "terms-blank"].contains(&name) {
             let mut words = vec![name, "--force"];
-            words.resize(2 + operands, "1");
+            words.resize(2 + operands, "0");
             run(&words).failed(64, "no option --force");
         }
     }

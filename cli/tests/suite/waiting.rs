@@ -46,8 +46,9 @@ fn finished(child: Child) -> Run {
 /// Every command that changes something, each of which has something to change.
 fn changes(scratch: &Scratch) -> Vec<Vec<OsString>> {
     let (file, keys) = (scratch.join("sheet"), scratch.keys(8));
-    let table = scratch.join("table");
+    let (table, terms) = (scratch.join("table"), scratch.join("terms"));
     fs::write(&table, "slot\ttext\n0\tClock\n").unwrap();
+    fs::write(&terms, term_sheet(&[(36524, 0); 2])).unwrap();
     fs::write(&file, written(&blank_sheet(1, 4), 8, 0, b"Vase")).unwrap();
     vec![
         words!["blank", scratch.join("new"), "1", "64"].to_vec(),
@@ -56,6 +57,10 @@ fn changes(scratch: &Scratch) -> Vec<Vec<OsString>> {
         words!["clear", file, "0"].to_vec(),
         words!["import", file, keys, "--file", table].to_vec(),
         words!["keys", scratch.join("new.keys"), "64"].to_vec(),
+        words!["terms-blank", scratch.join("new.terms"), "1"].to_vec(),
+        words!["terms-set", terms, "0", "2026-05-01", "2026-10-31"].to_vec(),
+        words!["terms-set", terms, "0", "--never"].to_vec(),
+        words!["terms-blank", terms, "1", "--force"].to_vec(),
     ]
 }
 

@@ -12,7 +12,7 @@ use borrow.Author.Tests.{eqb-true, leb-false, not-true, not-false}
 use Rattle.octets.specs.Bytes.{number, zeros, allZero, same, allBelow, be}
 use Rattle.octets.specs.Outcome.{decided}
 use Rattle.octets.specs.Clauses.{Answers, Exactly, Each, none, and}
-use Rattle.octets.proofs.Clauses.{Reflects, reflects-not, reflects-and, reflects-as, reflects-eqb, reflects-leb, reflects-ltb, reflects-same, Means, Refuses, decided-exactly, decided-refused, decided-zero}
+use Rattle.octets.proofs.Clauses.{Reflects, reflects-not, reflects-and, reflects-or, reflects-as, reflects-eqb, reflects-leb, reflects-ltb, reflects-same, Means, Refuses, decided-exactly, decided-refused, decided-zero}
 use Rattle.octets.proofs.Compare.{same-is, same-eq}
 use Rattle.octets.proofs.Zeros.{allZero-is, getD-zeros}
 use Rattle.cipher.specs.Key.{mcryptonClass, classKnown, keyBytes, sheetKeyLength}
@@ -44,7 +44,7 @@ reflects-length n = record { holds = go (eqb n 8) (eqb n 12) (eqb n 16) refl ref
     go false true z p q r h = rw (eqb-true n 12 q) twelve
     go false false z p q r h = rw (eqb-true n 16 (r ∙ h)) sixteen
 
-reflects-keys : (k : Keys) → Reflects (wrongKeys k) (RightKeys k → ⊥)
+pub reflects-keys : (k : Keys) → Reflects (wrongKeys k) (RightKeys k → ⊥)
 unfolding wrongKeys
 reflects-keys k =
     reflects-not
@@ -53,11 +53,11 @@ reflects-keys k =
 
 -- ---- the sheet and the slot
 
-reflects-unfit : (s : List ℕ) → Reflects (not (fitIn (editionOf s) s)) (MeetsLayout s → ⊥)
+pub reflects-unfit : (s : List ℕ) → Reflects (not (fitIn (editionOf s) s)) (MeetsLayout s → ⊥)
 unfolding fit
 reflects-unfit s = reflects-not (reflects-fit s)
 
-reflects-class : (k : Keys) (s : List ℕ) → Reflects (otherClass k s) (length (k .sealing) ≡ keyBytes (keyClass s) → ⊥)
+pub reflects-class : (k : Keys) (s : List ℕ) → Reflects (otherClass k s) (length (k .sealing) ≡ keyBytes (keyClass s) → ⊥)
 unfolding otherClass
 reflects-class k s = reflects-not (reflects-eqb (length (k .sealing)) (keyBytes (keyClass s)))
 
@@ -86,18 +86,10 @@ zero-past v n j h l =
     ∙ ap (λ (u : List ℕ). getD u (j - n) 0) (allZero-is (drop n v) h)
     ∙ getD-zeros (length (drop n v)) (j - n)
 
-reflects-or : {a b : Bool} {P Q : Type 0} → Reflects a P → Reflects b Q → Reflects (a || b) (P ⊎ Q)
-reflects-or {a = true} r q = record { holds = λ e. inl (r .holds refl); fails = λ e h. false≢true (sym e) }
-reflects-or {a = false} {b} {P} {Q} r q = record { holds = λ e. inr (q .holds e); fails = fails }
-  where
-    fails : b ≡ false → P ⊎ Q → ⊥
-    fails e (inl h) = r .fails refl h
-    fails e (inr h) = q .fails e h
-
 reflects-left : (v : List ℕ) (n : ℕ) → Reflects (not (allZero (drop n v))) (Left v n)
 reflects-left v n = record { holds = λ e. left-past v n (not-true _ e); fails = λ e l. l .not-zero (zero-past v n (l .place) (not-false _ e) (l .past)) }
 
-reflects-altered : (x : Ciphers) (e : Edition) (s : List ℕ) (i : ℕ) → Reflects (altered x e s i) (IsAltered x e s i)
+pub reflects-altered : (x : Ciphers) (e : Edition) (s : List ℕ) (i : ℕ) → Reflects (altered x e s i) (IsAltered x e s i)
 unfolding altered
 reflects-altered x e s i = reflects-as into from (reflects-or (reflects-not (reflects-same _ _)) (reflects-left (opened x e s i) (markLength (mark e s i))))
   where
@@ -207,7 +199,7 @@ refusal-length Worn h = refl
 refusal-length Blank h = refl
 refusal-length Altered h = refl
 
-leaves : (a : Answer) (bytes : List ℕ) → (answerNumber a ≡ 0 → ⊥) → Leaves (outcome a bytes) bytes
+pub leaves : (a : Answer) (bytes : List ℕ) → (answerNumber a ≡ 0 → ⊥) → Leaves (outcome a bytes) bytes
 unfolding outcome
 leaves a bytes h = record { len = refusal-length a h; bytes-are = refl }
 

@@ -1,9 +1,12 @@
--- What crosses to C: the number and the length of an outcome.
+-- What crosses to C: the number of an outcome, and its length, its day or its date.
 use mathlib.Core.List.{List}
 use Prim.Native.Nat.{ℕ}
 use Rattle.octets.specs.Outcome as Blocks
 use Rattle.captions.specs.Answers as Sheets
+use Rattle.calendar.specs.Calendar.{DayOutcome, DateOutcome}
 use Rattle.captions_c.specs.declared.Answer.{Answer}
+use Rattle.captions_c.specs.declared.Day.{Day}
+use Rattle.captions_c.specs.declared.Date.{Date}
 
 -- an outcome of a call on blocks, and of one on a sheet, from its number, its length and the lent bytes
 abbrev pub blockMade : ℕ → ℕ → List ℕ → Blocks.Outcome
@@ -17,3 +20,9 @@ crossed a = blockMade (a .number) (a .length)
 
 abbrev pub sheetCrossed : Answer → List ℕ → Sheets.Outcome
 sheetCrossed a = sheetMade (a .number) (a .length)
+
+abbrev pub dayCrossed : Day → DayOutcome
+dayCrossed d = record { number = d .number; day = d .day }
+
+abbrev pub dateCrossed : Date → DateOutcome
+dateCrossed d = record { number = d .number; year = d .year; month = d .month; day = d .day }

@@ -7,13 +7,30 @@ ghost use Rattle.modes.specs.Answers.{macOutcome, authenticating};
 ghost use Rattle.captions.specs.Answers.{outcome};
 ghost use Rattle.captions.specs.Captions.{pair};
 ghost use Rattle.captions.specs.Calls.{blanking, writing, clearing, reading};
+ghost use Rattle.calendar.specs.Answers.{dayOutcome, dateOutcome};
+ghost use Rattle.calendar.specs.Calendar.{dayOfDate, dateOfDay};
+ghost use Rattle.dated.specs.Calls.{datedOutcome, dating};
 ghost use Rattle.listing.specs.Listing.{listed};
-ghost use Rattle.captions_c.specs.Answer.{crossed, sheetCrossed};
+ghost use Rattle.captions_c.specs.Answer.{crossed, sheetCrossed, dayCrossed, dateCrossed};
 
 #[repr(C)]
 pub struct Answer {
     pub number: u8,
     pub length: u16,
+}
+
+#[repr(C)]
+pub struct Day {
+    pub number: u8,
+    pub day: u16,
+}
+
+#[repr(C)]
+pub struct Date {
+    pub number: u8,
+    pub year: u16,
+    pub month: u8,
+    pub day: u8,
 }
 
 // A number alone: the length is 0.
@@ -58,6 +75,45 @@ fn sheet_answer(a: captions::Answer) -> Answer
         captions::Answer::Worn => numbered(8),
         captions::Answer::Blank => numbered(9),
         captions::Answer::Altered => numbered(10),
+    }
+}
+
+fn dated_answer(a: dated::DatedAnswer) -> Answer
+    ensures { λ r. ⌜ ((x : List ℕ) → sheetCrossed r x ≡ (datedOutcome a x) .outcome) ⌝ }
+{
+    match a {
+        dated::DatedAnswer::Read(a) => sheet_answer(a),
+        dated::DatedAnswer::UnfitTerms => numbered(4),
+        dated::DatedAnswer::NoSuchDate => numbered(11),
+        dated::DatedAnswer::NotOnShow => numbered(12),
+    }
+}
+
+fn day_answer(a: calendar::DayAnswer) -> Day
+    ensures { λ r. ⌜ dayCrossed r ≡ dayOutcome a ⌝ }
+{
+    match a {
+        calendar::DayAnswer::Day(day) => Day { number: 0, day },
+        calendar::DayAnswer::NoSuchDate => Day { number: 11, day: 0 },
+    }
+}
+
+fn date_answer(a: calendar::DateAnswer) -> Date
+    ensures { λ r. ⌜ dateCrossed r ≡ dateOutcome a ⌝ }
+{
+    match a {
+        calendar::DateAnswer::Date { year, month, day } => Date {
+            number: 0,
+            year,
+            month,
+            day,
+        },
+        calendar::DateAnswer::NoSuchDate => Date {
+            number: 11,
+            year: 0,
+            month: 0,
+            day: 0,
+        },
     }
 }
 
@@ -137,6 +193,38 @@ pub extern "C" fn captions_read(
 {
     let a = sheet::read(sealing, checking, sheet, slot, window);
     sheet_answer(a)
+}
+
+#[no_mangle]
+pub extern "C" fn captions_day_of_date(year: usize, month: usize, day: usize) -> Day
+    ensures { λ r. ⌜ dayCrossed r ≡ dayOfDate year month day ⌝ }
+{
+    let a = calendar::day_of_date(year, month, day);
+    day_answer(a)
+}
+
+#[no_mangle]
+pub extern "C" fn captions_date_of_day(day: usize) -> Date
+    ensures { λ r. ⌜ dateCrossed r ≡ dateOfDay day ⌝ }
+{
+    let a = calendar::date_of_day(day);
+    date_answer(a)
+}
+
+#[no_mangle]
+pub extern "C" fn captions_dated_read(
+    sealing: &[u8],
+    checking: &[u8],
+    sheet: &[u8],
+    terms: &[u8],
+    slot: usize,
+    day: usize,
+    window: &mut [u8],
+) -> Answer
+    ensures { λ r. ⌜ sheetCrossed r (now (window .exit)) ≡ (dating (pair (now (sealing .entry)) (now (checking .entry))) (now (sheet .entry)) (now (terms .entry)) slot day (now (window .entry))) .outcome ⌝ }
+{
+    let a = dated::dated_read(sealing, checking, sheet, terms, slot, day, window);
+    dated_answer(a)
 }
 
 // The bytes of the listing written; 0, and out as it was, where out is too small.

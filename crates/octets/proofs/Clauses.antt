@@ -1,9 +1,9 @@
 -- Tests that mean propositions, and a table of tests beside a list of clauses.
 use Prim.Native.Nat.{ℕ, _≤_, _<_}
 use mathlib.Core.Path.{_≡_, refl, sym, _∙_, subst}
-use mathlib.Core.Bool.{Bool, true, false, not, _&&_, false≢true}
+use mathlib.Core.Bool.{Bool, true, false, not, _&&_, _||_, false≢true}
 use mathlib.Core.List.{List, [], _∷_}
-use mathlib.Core.Logic.{inl, inr}
+use mathlib.Core.Logic.{_⊎_, inl, inr}
 use native.Mathlib.Omega.{arith}
 use lib.Dec.{eqb, leb, ltb}
 use borrow.Author.Tests.{eqb-true, eqb-false, leb-true, leb-false, ltb-true, ltb-false}
@@ -25,6 +25,22 @@ reflects-not {t = false} r = record { holds = λ e. r .fails refl; fails = λ e.
 pub reflects-and : {a b : Bool} {P Q : Type 0} → Reflects a P → Reflects b Q → Reflects (a && b) (P × Q)
 reflects-and {a = true} r q = record { holds = λ e. (r .holds refl, q .holds e); fails = λ e h. q .fails e (h .1) }
 reflects-and {a = false} r q = record { holds = λ e. absurd (false≢true e); fails = λ e h. r .fails refl (h .0) }
+
+pub reflects-or : {a b : Bool} {P Q : Type 0} → Reflects a P → Reflects b Q → Reflects (a || b) (P ⊎ Q)
+reflects-or {a = true} r q = record { holds = λ e. inl (r .holds refl); fails = λ e h. false≢true (sym e) }
+reflects-or {a = false} {b} {P} {Q} r q = record { holds = λ e. inr (q .holds e); fails = fails }
+  where
+    fails : b ≡ false → P ⊎ Q → ⊥
+    fails e (inl h) = r .fails refl h
+    fails e (inr h) = q .fails e h
+
+pub reflects-yes : {t : Bool} {P : Type 0} → Reflects t P → P → t ≡ true
+reflects-yes {t = true} r p = refl
+reflects-yes {t = false} r p = absurd (r .fails refl p)
+
+pub reflects-no : {t : Bool} {P : Type 0} → Reflects t P → (P → ⊥) → t ≡ false
+reflects-no {t = true} r n = absurd (n (r .holds refl))
+reflects-no {t = false} r n = refl
 
 -- one proposition in place of another
 pub reflects-as : {t : Bool} {P Q : Type 0} → (P → Q) → (Q → P) → Reflects t P → Reflects t Q

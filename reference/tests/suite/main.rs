@@ -1,9 +1,14 @@
-//! The tests of the second program, by the headings of document 01.
+//! The tests of the second program, by the headings of document 01
+//! and the requests of document 02.
 
 mod blanking;
 mod book;
+mod calendar;
+mod calendars;
 mod cases;
 mod cipher;
+mod dated;
+mod dated_order;
 mod des;
 mod edges;
 mod edition;
@@ -15,4 +20,6 @@ mod random;
 mod refusals;
 mod sheet;
 mod support;
+mod term_sheet;
+mod terms;
 mod vectors;

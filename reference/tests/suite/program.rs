@@ -39,6 +39,14 @@ fn the_program_prints_each_kind_of_vectors() {
 }
 
 #[test]
+fn the_program_prints_the_date_of_every_day() {
+    let dates = printed(&["dates"], b"");
+    assert_eq!(dates, reference::calendar::all_dates().as_bytes());
+    assert!(dates.starts_with(b"0 2000-01-01\n1 2000-01-02\n"));
+    assert!(dates.ends_with(b"\n36524 2099-12-31\n"));
+}
+
+#[test]
 fn the_program_lists_a_sheet() {
     let mut sheet = vec![0; 424];
     sheet[..4].copy_from_slice(&[0, 2, 4, 1]);
@@ -73,6 +81,7 @@ fn anything_else_gives_usage_and_status_64() {
         &["vectors", "all"],
         &["vectors", "blocks", "keys"],
         &["list", "file"],
+        &["dates", "2000"],
         &["Vectors", "blocks"],
         &["--help"],
     ] {

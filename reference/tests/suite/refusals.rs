@@ -113,18 +113,24 @@ fn a_clear_of_any_short_or_random_sheet_changes_nothing() {
 }
 
 /// What a call on a sheet is given, so that a set of refusals applies.
-struct Call {
-    sealing: Vec<u8>,
-    checking: Vec<u8>,
-    sheet: Vec<u8>,
-    slot: usize,
-    caption: Vec<u8>,
-    window: Vec<u8>,
+#[derive(Clone)]
+pub struct Call {
+    pub sealing: Vec<u8>,
+    pub checking: Vec<u8>,
+    pub sheet: Vec<u8>,
+    pub slot: usize,
+    pub caption: Vec<u8>,
+    pub window: Vec<u8>,
 }
 
 /// A call to which each refusal of the set applies, whatever else does:
 /// `way` chooses among ways of provoking one.
-fn call_for(set: &[u8], (edition, t): (Edition, usize), way: usize, random: &mut Random) -> Call {
+pub fn call_for(
+    set: &[u8],
+    (edition, t): (Edition, usize),
+    way: usize,
+    random: &mut Random,
+) -> Call {
     let provoke = |number| set.contains(&number);
     let mut keys = pair(random, edition, t);
     let mut sheet = edition.blank_sheet(3, t);

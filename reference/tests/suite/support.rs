@@ -3,6 +3,7 @@
 use crate::edition::Edition;
 use crate::random::Random;
 use reference::Answer;
+use std::io::Write;
 
 pub const CLASSES: [usize; 3] = [4, 6, 8];
 
@@ -11,6 +12,13 @@ pub fn kinds() -> impl Iterator<Item = (Edition, usize)> {
     Edition::ALL
         .into_iter()
         .flat_map(|edition| CLASSES.map(|t| (edition, t)))
+}
+
+/// Prints a line also where the test harness keeps back what a passing test
+/// prints.
+pub fn report(line: &str) {
+    let mut out = std::io::stdout().lock();
+    writeln!(out, "{line}").unwrap();
 }
 
 /// A value of byte 3 that is no edition's.
@@ -95,6 +103,19 @@ pub fn w_of(sheet: &[u8]) -> u32 {
 pub fn read(keys: &(Vec<u8>, Vec<u8>), sheet: &[u8], slot: usize) -> (Answer, [u8; 192]) {
     let mut window = [0x5a; 192];
     let answer = reference::read(&keys.0, &keys.1, sheet, slot, &mut window);
+    (answer, window)
+}
+
+/// A dated read with a window of 192 bytes.
+pub fn dated_read(
+    keys: &(Vec<u8>, Vec<u8>),
+    sheet: &[u8],
+    terms: &[u8],
+    slot: usize,
+    day: usize,
+) -> (Answer, [u8; 192]) {
+    let mut window = [0x5a; 192];
+    let answer = reference::dated_read(&keys.0, &keys.1, sheet, terms, slot, day, &mut window);
     (answer, window)
 }
 

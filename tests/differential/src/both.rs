@@ -1,11 +1,14 @@
 //! Every call made on both programs: the library, over lent memory, is held
 //! to the second program's number, length and bytes.
 
+mod dated;
+
 use crate::edition::Edition;
 use crate::lent::{Lent, Place};
 use crate::library;
 use crate::sheets::Keys;
 use reference::Answer;
+use std::fmt::Debug;
 
 /// The two block calls.
 #[derive(Clone, Copy, Debug)]
@@ -21,7 +24,7 @@ pub struct Both {
     pub label: String,
     pub calls: u64,
     /// How often each number was answered.
-    pub numbers: [u64; 11],
+    pub numbers: [u64; 13],
     pub listings: u64,
 }
 
@@ -31,7 +34,7 @@ impl Both {
             place,
             label: label.to_string(),
             calls: 0,
-            numbers: [0; 11],
+            numbers: [0; 13],
             listings: 0,
         }
     }
@@ -227,12 +230,23 @@ impl Both {
     }
 
     fn hold_answer(&mut self, call: impl Fn() -> String, ours: Answer, theirs: Answer) {
+        self.hold(call, ours, theirs, theirs.number);
+    }
+
+    /// Answers of any kind, and the number that they have.
+    fn hold<A: Debug + PartialEq>(
+        &mut self,
+        call: impl Fn() -> String,
+        ours: A,
+        theirs: A,
+        number: u8,
+    ) {
         if ours != theirs {
             let label = &self.label;
             panic!("{label}: {}: {ours:?}, second program {theirs:?}", call());
         }
         self.calls += 1;
-        self.numbers[usize::from(theirs.number)] += 1;
+        self.numbers[usize::from(number)] += 1;
     }
 
     fn hold_bytes(&self, call: impl Fn() -> String, what: &str, lent: &Lent, expected: &[u8]) {
@@ -247,6 +261,13 @@ impl Both {
         if !lent.guards_stand() {
             panic!("{label}: {}: a byte outside the {what} was changed", call());
         }
+    }
+
+    /// Holds that exactly these numbers were answered.
+    pub fn hold_met(&self, numbers: impl IntoIterator<Item = usize>) {
+        let met = (0..self.numbers.len()).filter(|number| self.numbers[*number] > 0);
+        let (met, expected): (Vec<_>, Vec<_>) = (met.collect(), numbers.into_iter().collect());
+        assert_eq!(met, expected, "{}: numbers met", self.label);
     }
 
     /// "12 of 0, 3 of 1": how often each number was answered.

@@ -1,5 +1,6 @@
 //! What the tests share: the library's calls, memory to lend, a seeded
-//! generator, sheets, and every call made on both programs and compared.
+//! generator, sheets, term sheets, and every call made on both programs and
+//! compared.
 
 pub mod both;
 /// DES-EDE3, another 64-bit block cipher, from the second program's tests.
@@ -13,6 +14,10 @@ pub mod library;
 pub mod openssl;
 pub mod random;
 pub mod sheets;
+/// Term sheets laid out, from the second program's tests.
+#[path = "../../../reference/tests/suite/term_sheet.rs"]
+pub mod term_sheet;
+pub mod terms;
 
 use std::io::Write;
 

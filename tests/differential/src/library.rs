@@ -1,12 +1,26 @@
 //! The calls of the static library, over slices.
 
-use reference::Answer;
+use reference::{Answer, DateAnswer, DayAnswer};
 
 mod c {
     #[repr(C)]
     pub struct Answer {
         pub number: u8,
         pub length: u16,
+    }
+
+    #[repr(C)]
+    pub struct Day {
+        pub number: u8,
+        pub day: u16,
+    }
+
+    #[repr(C)]
+    pub struct Date {
+        pub number: u8,
+        pub year: u16,
+        pub month: u8,
+        pub day: u8,
     }
 
     extern "C" {
@@ -65,6 +79,22 @@ mod c {
             window: *mut u8,
             window_len: usize,
         ) -> Answer;
+        pub fn captions_dated_read(
+            sealing_key: *const u8,
+            sealing_len: usize,
+            checking_key: *const u8,
+            checking_len: usize,
+            sheet: *const u8,
+            sheet_len: usize,
+            terms: *const u8,
+            terms_len: usize,
+            slot: usize,
+            day: usize,
+            window: *mut u8,
+            window_len: usize,
+        ) -> Answer;
+        pub fn captions_day_of_date(year: usize, month: usize, day: usize) -> Day;
+        pub fn captions_date_of_day(day: usize) -> Date;
         pub fn captions_list(
             sheet: *const u8,
             sheet_len: usize,
@@ -184,6 +214,51 @@ pub fn read(
             window.len(),
         )
     })
+}
+
+#[inline]
+pub fn dated_read(
+    sealing_key: &[u8],
+    checking_key: &[u8],
+    sheet: &[u8],
+    terms: &[u8],
+    slot: usize,
+    day: usize,
+    window: &mut [u8],
+) -> Answer {
+    answer(unsafe {
+        c::captions_dated_read(
+            sealing_key.as_ptr(),
+            sealing_key.len(),
+            checking_key.as_ptr(),
+            checking_key.len(),
+            sheet.as_ptr(),
+            sheet.len(),
+            terms.as_ptr(),
+            terms.len(),
+            slot,
+            day,
+            window.as_mut_ptr(),
+            window.len(),
+        )
+    })
+}
+
+#[inline]
+pub fn day_of_date(year: usize, month: usize, day: usize) -> DayAnswer {
+    let c::Day { number, day } = unsafe { c::captions_day_of_date(year, month, day) };
+    DayAnswer { number, day }
+}
+
+#[inline]
+pub fn date_of_day(day: usize) -> DateAnswer {
+    let date = unsafe { c::captions_date_of_day(day) };
+    DateAnswer {
+        number: date.number,
+        year: date.year,
+        month: date.month,
+        day: date.day,
+    }
 }
 
 /// The bytes of the listing written; 0, and `out` as it was, where it is too

@@ -6,6 +6,7 @@ use differential::edition::Edition;
 use differential::random::{seed, Random};
 use differential::report;
 use differential::sheets::{fit_sheet, kinds, near_sheet, Keys, CLASSES, FAULTS, FIELD};
+use differential::terms::{day_near, some_terms};
 
 /// The slots of an edition's sheet that a length has room for.
 fn room(edition: Edition, length: usize) -> usize {
@@ -28,6 +29,9 @@ pub fn each_call(both: &mut Both, random: &mut Random, edition: Edition, sheet: 
         let length = random.below(FIELD + 2);
         let caption = random.bytes(length);
         both.read(&keys, sheet, slot, FIELD);
+        let terms = some_terms(random, n.max(1));
+        let day = day_near(random, &terms);
+        both.dated_read(&keys, sheet, &terms, slot, day, FIELD);
         both.write(&keys, &mut sheet.to_vec(), slot, &caption);
         both.clear(&mut sheet.to_vec(), slot);
     }

@@ -1,10 +1,14 @@
 //! The order of refusals: every combination of faults in one call.
 
 use crate::both;
+use crate::dated::NUMBERS;
 use differential::edition::Edition;
 use differential::random::Random;
 use differential::report;
 use differential::sheets::{kinds, set_last_number, Keys, CLASSES, FIELD, UNKNOWN_EDITION};
+use differential::term_sheet::{
+    closing_place, opening_place, put_number, term_sheet, Term, ALWAYS, NEVER,
+};
 
 const SLOTS: usize = 5;
 
@@ -77,9 +81,63 @@ fn every_combination_of_faults() {
             }
         }
     }
-    assert!(both.numbers.iter().all(|times| *times > 0));
+    both.hold_met(0..=10);
     let (calls, met) = (both.calls, both.numbers_met());
     report(&format!(
         "sheet: combinations of faults, {calls} calls: {met}"
+    ));
+}
+
+/// Term sheets by which slots are on show on day 100 or not, written, altered
+/// and blank ones; then unfit term sheets.
+fn term_sheets() -> Vec<Vec<u8>> {
+    let on_and_off = |on: Term, off: Term| term_sheet(&[on, off, (100, 99), (100, 100), off]);
+    let all_on = term_sheet(&[ALWAYS; SLOTS]);
+    let mut other_count = all_on.clone();
+    put_number(&mut other_count, 0, SLOTS as u16 - 1);
+    let mut late_opening = all_on.clone();
+    put_number(&mut late_opening, opening_place(SLOTS - 1), 36_525);
+    let mut late_closing = all_on.clone();
+    put_number(&mut late_closing, closing_place(SLOTS, 0), 36_525);
+    let cut = all_on[..all_on.len() - 1].to_vec();
+    vec![
+        all_on,
+        on_and_off(ALWAYS, NEVER),
+        on_and_off((99, 101), (101, 200)),
+        on_and_off((0, 100), (0, 99)),
+        on_and_off(NEVER, ALWAYS),
+        other_count,
+        late_opening,
+        late_closing,
+        cut,
+        Vec::new(),
+    ]
+}
+
+#[test]
+fn every_combination_of_faults_of_a_dated_read() {
+    let mut random = Random::of_part(521);
+    let mut both = both("combinations of faults of dated reads");
+    for (edition, t) in kinds() {
+        let right = Keys::own(&mut random, edition, t);
+        let pairs = pairs(&mut random, t, &right);
+        for sheet in sheets(&mut random, (edition, t), &right, 3) {
+            for terms in term_sheets() {
+                for slot in 0..=SLOTS {
+                    for day in [100, 36_525] {
+                        for keys in &pairs {
+                            for window in [FIELD, FIELD - 1] {
+                                both.dated_read(keys, &sheet, &terms, slot, day, window);
+                            }
+                        }
+                    }
+                }
+            }
+        }
+    }
+    both.hold_met(NUMBERS);
+    let (calls, met) = (both.calls, both.numbers_met());
+    report(&format!(
+        "sheet: combinations of faults of dated reads, {calls} calls: {met}"
     ));
 }

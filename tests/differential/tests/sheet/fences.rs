@@ -9,6 +9,7 @@ use differential::lent::Place;
 use differential::random::{seed, Random};
 use differential::report;
 use differential::sheets::{caption_length, kinds, Keys, FIELD};
+use differential::terms::{day_near, some_terms};
 
 fn blocks_and_messages(both: &mut Both, random: &mut Random) {
     for key in 0..=17 {
@@ -43,6 +44,9 @@ fn written_sheets(both: &mut Both, random: &mut Random) {
             both.clear(&mut sheet, n / 2);
             for slot in (0..n).take(20).chain([n - 1, n]) {
                 both.read(&keys, &sheet, slot, FIELD);
+                let terms = some_terms(random, n);
+                let day = day_near(random, &terms);
+                both.dated_read(&keys, &sheet, &terms, slot, day, FIELD);
             }
             both.list(&sheet);
         }

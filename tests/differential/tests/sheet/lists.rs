@@ -6,7 +6,9 @@ use differential::edition::Edition;
 use differential::random::{seed, Random};
 use differential::report;
 use differential::sheets::{caption_length, last_number, set_last_number, Keys, CLASSES, FIELD};
-use reference::Book;
+use differential::term_sheet::{belongs, on_show, LAST_DAY};
+use differential::terms::{day_near, some_terms};
+use reference::{Answer, Book, NOT_ON_SHOW};
 
 /// Lists for each class; three classes make more than 20,000.
 const LISTS: usize = 7_000;
@@ -80,7 +82,8 @@ impl State {
         match random.below(100) {
             0..45 => self.write(both, random, asked),
             45..60 => self.clear(both, random, asked),
-            60..95 => self.read(both, random, asked),
+            60..85 => self.read(both, random, asked),
+            85..95 => self.dated_read(both, random, asked),
             _ => self.blank_somehow(both, random),
         }
     }
@@ -190,6 +193,28 @@ impl State {
         }
     }
 
+    /// A read on a day. With the sheet's pair, a term sheet that belongs and a
+    /// day of the calendar it shows the model's page, unless that is off show.
+    fn dated_read(&self, both: &mut Both, random: &mut Random, asked: &mut Asked) {
+        let slot = self.some_slot(random);
+        let (keys, own) = self.some_keys(random);
+        let terms = some_terms(random, self.slots);
+        let day = day_near(random, &terms);
+        let (answer, window) = both.dated_read(&keys, &self.sheet, &terms, slot, day, FIELD);
+        let page = self.book.as_ref().and_then(|book| book.reading(slot));
+        if let Some((mut true_answer, mut true_window)) = page {
+            if !own || !belongs(&terms, self.slots) || day > LAST_DAY {
+                return;
+            }
+            if true_answer.number == 0 && !on_show(&terms, self.slots, slot, day) {
+                (true_answer, true_window) = (Answer::refused(NOT_ON_SHOW), [0; FIELD]);
+            }
+            asked.pages += 1;
+            assert_eq!(answer, true_answer, "{}: read {slot} on {day}", both.label);
+            assert_eq!(window, true_window, "{}: read {slot} on {day}", both.label);
+        }
+    }
+
     fn read_all(&self, both: &mut Both, asked: &mut Asked) {
         for slot in 0..=self.slots {
             self.read_page(both, slot, asked);
@@ -238,7 +263,7 @@ fn lists(t: usize) {
             list(&mut both, &mut random, (edition, t), &mut asked);
         }
     }
-    assert!(both.numbers.iter().all(|times| *times > 0));
+    both.hold_met(0..=12);
     let (calls, met) = (both.calls, both.numbers_met());
     let Asked {
         calls: answers,

@@ -1,8 +1,10 @@
-//! Sheets: blanking, writing, clearing and reading on both programs.
+//! Sheets: blanking, writing, clearing and reading, also on a day, on both
+//! programs.
 
 mod bits;
 mod blanking;
 mod buffers;
+mod dated;
 mod edges;
 mod faults;
 mod fences;

@@ -1,0 +1,4 @@
+pub mod Read
+pub mod Beside
+pub mod Open
+pub mod Laws

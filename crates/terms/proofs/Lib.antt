@@ -1,0 +1,5 @@
+pub mod Terms
+pub mod Meaning
+pub mod Store
+pub mod Only
+pub mod Laws

@@ -1,0 +1,4 @@
+pub mod Terms
+pub mod Rules
+pub mod Laws
+pub mod Inner
