@@ -1,9 +1,9 @@
 //! Second program for mCrypton caption sheets.
 //!
 //! It is written from documents 01 (the scope) and 02 (the change requests, of
-//! them request 1), document 000 (the mCrypton paper) and the NIST standards
-//! SP 800-38A (CBC) and SP 800-38B (CMAC) alone, to be read beside them and
-//! compared with, not to be fast.
+//! them requests 1 and 2), document 000 (the mCrypton paper) and the NIST
+//! standards SP 800-38A (CBC) and SP 800-38B (CMAC) alone, to be read beside
+//! them and compared with, not to be fast.
 //!
 //! Every public function is total: it takes slices of any length and numbers
 //! of any size, and never panics.

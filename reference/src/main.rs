@@ -6,7 +6,7 @@ use std::io::{stdin, stdout, Read, Result, Write};
 use std::process::ExitCode;
 
 const USAGE: &str = "\
-usage: reference vectors blocks|keys|cmac|cbc|sheet
+usage: reference vectors blocks|keys|cmac|steps|cbc|sheet
        reference dates
        reference list < sheet
 ";
@@ -25,6 +25,7 @@ fn main() -> ExitCode {
         ["vectors", "blocks"] => print(vectors::blocks().as_bytes()),
         ["vectors", "keys"] => print(vectors::keys().as_bytes()),
         ["vectors", "cmac"] => print(vectors::cmacs().as_bytes()),
+        ["vectors", "steps"] => print(vectors::steps().as_bytes()),
         ["vectors", "cbc"] => print(vectors::cbc().as_bytes()),
         ["vectors", "sheet"] => print(vectors::sheet().as_bytes()),
         ["dates"] => print(calendar::all_dates().as_bytes()),

@@ -36,34 +36,59 @@ pub fn cbc_decrypt(ciph_inverse: BlockFunction, start: Block, ciphertext: &[Bloc
     plaintext
 }
 
-/// The constant R_b of a 64-bit block (SP 800-38B, 5.3).
-const R_64: u64 = 0x1b;
+/// The constant R_b of a 64-bit block, b = 64 (SP 800-38B, 5.3).
+const R_B: u64 = 0x1b;
 
-/// One step of subkey generation (SP 800-38B, 6.1): the block shifted left by
-/// one bit, with R_b added if a 1 was shifted out.
-fn double(block: Block) -> Block {
-    let l = u64::from_be_bytes(block);
-    let shifted = l << 1;
-    if l >> 63 == 0 {
-        shifted.to_be_bytes()
+/// What SP 800-38B names on the way to a CMAC, in its order.
+#[derive(Clone, Debug, PartialEq, Eq)]
+pub struct Steps {
+    /// L (6.1, step 1).
+    pub l: Block,
+    /// K1 (6.1, step 2).
+    pub k1: Block,
+    /// K2 (6.1, step 3).
+    pub k2: Block,
+    /// n, the number of blocks (6.2, step 2).
+    pub n: usize,
+    /// M_1 to M_n (6.2, steps 3 and 4).
+    pub blocks: Vec<Block>,
+    /// C_0 to C_n, so C_i is value i (6.2, steps 5 and 6).
+    pub chain: Vec<Block>,
+    /// T (6.2, step 7).
+    pub t: Block,
+}
+
+/// K1 of L, and K2 of K1 (SP 800-38B, 6.1, steps 2 and 3): X << 1 if
+/// MSB_1(X) = 0, else (X << 1) ⊕ R_b.
+fn subkey_of(x: Block) -> Block {
+    let x = u64::from_be_bytes(x);
+    if x >> 63 == 0 {
+        (x << 1).to_be_bytes()
     } else {
-        (shifted ^ R_64).to_be_bytes()
+        ((x << 1) ^ R_B).to_be_bytes()
     }
+}
+
+/// Subkey generation (SP 800-38B, 6.1), with L handed back too.
+fn l_and_subkeys(ciph: BlockFunction) -> (Block, Block, Block) {
+    let l = ciph([0; 8]); // Step 1: L = CIPH_K(0^b).
+    let k1 = subkey_of(l); // Step 2: K1, by the top bit of L.
+    let k2 = subkey_of(k1); // Step 3: K2, by the top bit of K1.
+    (l, k1, k2) // Step 4: return K1, K2.
 }
 
 /// The subkeys K1 and K2 (SP 800-38B, 6.1).
 pub fn cmac_subkeys(ciph: BlockFunction) -> (Block, Block) {
-    let k1 = double(ciph([0; 8]));
-    let k2 = double(k1);
+    let (_, k1, k2) = l_and_subkeys(ciph);
     (k1, k2)
 }
 
-/// A last block that isn't complete, followed by a 1 bit and 0 bits.
-fn padded(last: &[u8]) -> Block {
-    let one_bit = last.len();
+/// M_n* || 10^j, a last block that isn't complete filled up to b bits.
+fn padded(m_n_star: &[u8]) -> Block {
+    let one_bit = m_n_star.len();
     from_fn(|i| {
         if i < one_bit {
-            last[i]
+            m_n_star[i]
         } else if i == one_bit {
             0x80
         } else {
@@ -72,21 +97,53 @@ fn padded(last: &[u8]) -> Block {
     })
 }
 
+/// M_n (SP 800-38B, 6.2, step 4).
+fn last_block(k1: Block, k2: Block, m_n_star: &[u8]) -> Block {
+    match Block::try_from(m_n_star) {
+        Ok(complete) => xor(k1, complete),
+        Err(_) => xor(k2, padded(m_n_star)),
+    }
+}
+
+/// MAC generation of a message of any length, Tlen = 64 (SP 800-38B, 6.2).
+pub fn cmac_steps(ciph: BlockFunction, message: &[u8]) -> Steps {
+    // Step 1: the subkeys, by 6.1.
+    let (l, k1, k2) = l_and_subkeys(ciph);
+    // Step 2: n = 1 if Mlen = 0, else n = ⌈Mlen / b⌉.
+    let n = match message.len() {
+        0 => 1,
+        bytes => bytes.div_ceil(8),
+    };
+    // Step 3: M = M_1 || … || M_(n-1) || M_n*, with M_1 to M_(n-1) complete.
+    let (complete, m_n_star) = message.split_at(8 * (n - 1));
+    let mut blocks = complete.as_chunks::<8>().0.to_vec();
+    // Step 4: M_n = K1 ⊕ M_n* if M_n* is complete, else K2 ⊕ (M_n* || 10^j).
+    blocks.push(last_block(k1, k2, m_n_star));
+    // Step 5: C_0 = 0^b.
+    let mut c_i = [0; 8];
+    let mut chain = vec![c_i];
+    // Step 6: C_i = CIPH_K(C_(i-1) ⊕ M_i) for i = 1 to n.
+    for m_i in &blocks {
+        c_i = ciph(xor(c_i, *m_i));
+        chain.push(c_i);
+    }
+    // Step 7: T = MSB_Tlen(C_n), which is C_n.
+    let t = c_i;
+    // Step 8: return T.
+    Steps {
+        l,
+        k1,
+        k2,
+        n,
+        blocks,
+        chain,
+        t,
+    }
+}
+
 /// CMAC of a message of any length, Tlen = 64 (SP 800-38B, 6.2).
 pub fn cmac_with(ciph: BlockFunction, message: &[u8]) -> Block {
-    let (k1, k2) = cmac_subkeys(ciph);
-    // The last block has 1 to 8 bytes; only that of the empty message has 0.
-    let last_start = message.len().saturating_sub(1) / 8 * 8;
-    let (front, last) = message.split_at(last_start);
-    let m_n = match Block::try_from(last) {
-        Ok(complete) => xor(k1, complete),
-        Err(_) => xor(k2, padded(last)),
-    };
-    let mut c = [0; 8];
-    for m_i in front.as_chunks::<8>().0 {
-        c = ciph(xor(c, *m_i));
-    }
-    ciph(xor(c, m_n))
+    cmac_steps(ciph, message).t
 }
 
 /// CMAC of a message with mCrypton. Refusals 1 and 3.

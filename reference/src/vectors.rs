@@ -1,7 +1,8 @@
 //! The vectors that the program prints, one function for each command.
 
-use crate::cipher::{decrypt_block, encrypt, encrypt_block, opening_key, sealing_key, Register};
-use crate::modes::{cbc_decrypt, cbc_encrypt, cmac};
+use crate::cipher::{decrypt_block, encrypt, encrypt_block, opening_key, sealing_key};
+use crate::cipher::{Block, Register};
+use crate::modes::{cbc_decrypt, cbc_encrypt, cmac, cmac_steps};
 use crate::sheet::Edition;
 use crate::{blank, cipher, clear, listing, read, write, Answer};
 
@@ -92,6 +93,39 @@ pub fn cmacs() -> String {
         }
     }
     lines
+}
+
+/// t, length, name, value, for each value that CMAC names.
+pub fn steps() -> String {
+    let mut lines = String::new();
+    for t in CLASSES {
+        for length in [0, 1, 7, 8, 9, 16, 200, 300] {
+            for (name, value) in named_steps(&key(t, length), &text(length, length)) {
+                lines += &format!("{t} {length} {name} {}\n", hex(&value));
+            }
+        }
+    }
+    lines
+}
+
+/// L, K1, K2, C0 to the last C, and T, which is the answer of the call `cmac`.
+fn named_steps(key: &[u8], message: &[u8]) -> Vec<(String, Block)> {
+    let mut mac = [0; 8];
+    cmac(key, message, &mut mac);
+    let Some(key) = Register::of_key(key) else {
+        return Vec::new();
+    };
+    let steps = cmac_steps(&|block| encrypt(key, block), message);
+    let mut named = vec![
+        ("L".to_string(), steps.l),
+        ("K1".to_string(), steps.k1),
+        ("K2".to_string(), steps.k2),
+    ];
+    for (i, c_i) in steps.chain.iter().enumerate() {
+        named.push((format!("C{i}"), *c_i));
+    }
+    named.push(("T".to_string(), mac));
+    named
 }
 
 /// t, number of blocks, encrypted text, decrypted text.

@@ -4,7 +4,7 @@ use mathlib.Core.List.{List}
 use mathlib.Core.Bool.{Bool, true, false}
 use Prim.Native.Nat.{ℕ, _/_}
 use borrow.Author.Tests.{eq-eqb, ne-eqb}
-use lib.ListN.{length, replicate}
+use lib.ListN.{length}
 use Rattle.octets.specs.Bytes.{zeros, put}
 use Rattle.octets.proofs.Outcome.{decided-first, decided-rest, decided-none}
 use Rattle.octets.proofs.Parts.{put-all}
@@ -12,7 +12,7 @@ use Rattle.mcrypton.specs.Bytes.{keyLength, encryptBytes}
 use Rattle.cipher.specs.Key.{loaded, encrypted}
 use Rattle.cipher.specs.declared.Key.{Key}
 use Rattle.cipher.proofs.Promise.{loaded-encrypts}
-use Rattle.modes.specs.CMAC.{blockCount, chainValue, cmac}
+use Rattle.modes.specs.CMAC.{blockCount, cmac}
 use Rattle.modes.specs.declared.MacAnswer.the-variants.{Accepted, WrongKey, WrongSpan}
 use Rattle.modes.specs.Answers.{macOutcome, authenticating}
 use Rattle.modes.proofs.Authentication.{mac-agree}
@@ -27,7 +27,7 @@ module _ (k m out : List ℕ) (r : Bool) (e : r ≡ keyLength (length k)) where
     unfolding authenticating
     refused-span n = decided-rest _ _ _ _ _ (rw (← e, t)) (decided-first _ _ _ _ _ (rw (ne-eqb (length out) 8 n)) refl)
 
-    pub accepted : length out ≡ 8 → (l : Key) (c out′ : List ℕ) → l ≡ loaded (length k / 2) k → c ≡ chainValue (encrypted l) (replicate 8 0) m (blockCount m) → length c ≡ 8
+    pub accepted : length out ≡ 8 → (l : Key) (c out′ : List ℕ) → l ≡ loaded (length k / 2) k → c ≡ cmac (encrypted l) m → length c ≡ 8
         → out′ ≡ put out 0 c → macOutcome Accepted out′ ≡ authenticating k m out
     unfolding authenticating cmac zeros
     accepted n l c out′ el ec sc eo =

@@ -6,17 +6,17 @@ use Prim.Native.Nat.{ℕ, suc, _+_, _-_, _*_, _/_, _%_, _^_, _≤_, _<_}
 use native.Mathlib.Nat.{add-mul, mul-right-comm, pow-suc}
 use native.Mathlib.Decide.{ℕ-discrete}
 use native.Mathlib.Omega.{arith}
-use borrow.Author.Tests.{eq-eqb, ne-eqb, lt-ltb, le-ltb}
-use lib.Dec.{lit<, ltb}
+use borrow.Author.Tests.{eq-eqb, ne-eqb, eqb-true, eqb-false, lt-ltb, le-ltb}
+use lib.Dec.{lit<, eqb, ltb}
 use lib.ListN.{length, getD, set, replicate, length-append}
-use lib.Seq.{take-all, set-at}
+use lib.Seq.{set-at}
 use Rattle.octets.specs.Bytes.{Bytes, none, more, number, zeros, part, put, if_then_else_}
 use Rattle.octets.proofs.EveryByte.{append-bytes, bytes-at}
-use Rattle.octets.proofs.Parts.{tab-all}
+use Rattle.octets.proofs.Parts.{part-all, tab-all}
 use Rattle.octets.proofs.Zeros.{length-zeros, zeros-bytes, drop-zeros}
 use Rattle.cipher.specs.Promise.{ByteBlock}
 use Rattle.modes.specs.Xor.{xorBytes}
-use Rattle.modes.specs.CMAC.{shiftLeft, R64, double, lastBlock}
+use Rattle.modes.specs.CMAC.{shiftLeft, R64, double, L, K1, K2, lastBlock}
 use Rattle.modes.proofs.Xor.{xor-block}
 
 -- a block shifted, from its bytes
@@ -42,7 +42,20 @@ module _ (b s : List ℕ) (e : s ≡ shiftLeft b) where
   unfolding double
   double-high r h q = q ∙ rw (le-ltb (getD b 0 0) 128 h, e)
 
-length-shift : (b : List ℕ) → length (shiftLeft b) ≡ length b
+-- 6.1: L, K1 and K2
+module _ (E : List ℕ → List ℕ) (l : List ℕ) (e : l ≡ E (replicate 8 0)) where
+  pub L-is : l ≡ L E
+  unfolding zeros
+  L-is = e
+
+  module _ (k1 : List ℕ) (f : k1 ≡ double l) where
+    pub K1-is : k1 ≡ K1 E
+    K1-is = f ∙ ap double L-is
+
+    pub K2-is : (k2 : List ℕ) → k2 ≡ double k1 → k2 ≡ K2 E
+    K2-is k2 g = g ∙ ap double K1-is
+
+pub length-shift : (b : List ℕ) → length (shiftLeft b) ≡ length b
 unfolding shiftLeft
 length-shift [] = refl
 length-shift (x ∷ b) = ap suc (length-shift b)
@@ -65,17 +78,31 @@ padded s l n =
     let q : 8 - (0 + length s) ≡ suc (7 - length s) = omega arith in
     rw (drop-zeros (0 + length s) 8, q) (set-at s 0 (replicate (7 - length s) 0) 0x80 (length s) refl)
 
-module _ (k1 k2 s b r : List ℕ) where
-  pub last-complete : length s ≡ 8 → b ≡ part s 0 8 → r ≡ xorBytes k1 b → r ≡ lastBlock k1 k2 s
-  unfolding lastBlock
-  last-complete e f g = let h : length s ≤ 8 = omega arith in g ∙ rw (eq-eqb (length s) 8 e, f, take-all 8 s h)
+-- M_n, where t says whether M_n* is a complete block
+module _ (s : List ℕ) (t : Bool) (e : t ≡ eqb (length s) 8) where
+  complete : t ≡ true → length s ≡ 8
+  complete h = eqb-true (length s) 8 (sym e ∙ h)
 
-  pub last-padded : length s ≤ 8 → (length s ≡ 8 → ⊥) → b ≡ put (replicate 8 0) 0 s → r ≡ xorBytes k2 (set b (length s) 0x80) → r ≡ lastBlock k1 k2 s
-  unfolding lastBlock zeros
-  last-padded l n f g = g ∙ rw (ne-eqb (length s) 8 n, f) (ap (xorBytes k2) (padded s l n))
+  short : t ≡ false → length s ≡ 8 → ⊥
+  short h = eqb-false (length s) 8 (sym e ∙ h)
+
+  pub complete-inside : t ≡ true → 0 + 8 ≤ length s
+  complete-inside h = omega (arith, complete h)
+
+  pub short-inside : t ≡ false → length s ≤ 8 → length s < 8
+  short-inside h l = let n : length s ≡ 8 → ⊥ = short h in omega arith
+
+  module _ (k1 k2 b r : List ℕ) where
+    pub last-complete : t ≡ true → b ≡ part s 0 8 → r ≡ xorBytes k1 b → r ≡ lastBlock k1 k2 s
+    unfolding lastBlock
+    last-complete h f g = g ∙ rw (← e, h, f, part-all s 8 (complete h))
+
+    pub last-padded : t ≡ false → length s ≤ 8 → b ≡ put (replicate 8 0) 0 s → r ≡ xorBytes k2 (set b (length s) 0x80) → r ≡ lastBlock k1 k2 s
+    unfolding lastBlock zeros
+    last-padded h l f g = g ∙ rw (← e, h, f) (ap (xorBytes k2) (padded s l (short h)))
 
 -- each gives a block
-shift-bytes : {b : List ℕ} → Bytes b → Bytes (shiftLeft b)
+pub shift-bytes : {b : List ℕ} → Bytes b → Bytes (shiftLeft b)
 unfolding shiftLeft
 shift-bytes none = none
 shift-bytes (more {x} {s} h b) = more {x = x % 128 * 2 + getD s 0 0 / 128} (omega (arith, bytes-at s 0 b)) (shift-bytes b)

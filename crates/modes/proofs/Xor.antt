@@ -1,11 +1,11 @@
 -- Laws of the exclusive or of bytes.
 use mathlib.Core.Path.{_≡_, refl, sym, ap, ap₂, _∙_}
 use mathlib.Core.List.{List, [], _∷_}
-use Prim.Native.Nat.{ℕ, zero, suc}
+use Prim.Native.Nat.{ℕ, suc}
 use native.Mathlib.Omega.{arith}
 use lib.Bits.{bitXor, xor-lt}
 use lib.ListN.{length, getD}
-use Rattle.octets.specs.Bytes.{Bytes, none, more, zeros}
+use Rattle.octets.specs.Bytes.{Bytes, none, more}
 use Rattle.octets.proofs.Parts.{tab-all}
 use Rattle.octets.proofs.Xor.{xor-cancel}
 use Rattle.cipher.specs.Promise.{ByteBlock}
@@ -37,13 +37,6 @@ unfolding xorBytes
 xor-xor [] y h = refl
 xor-xor (a ∷ x) [] h = absurd (omega arith)
 xor-xor (a ∷ x) (b ∷ y) h = ap₂ (λ (z : ℕ) (s : List ℕ). z ∷ s) (xor-cancel a b) (xor-xor x y (omega arith))
-
-pub zeros-xor : (n : ℕ) (x : List ℕ) → length x ≡ n → xorBytes (zeros n) x ≡ x
-unfolding xorBytes zeros
-zeros-xor zero [] h = refl
-zeros-xor zero (a ∷ x) h = absurd (omega arith)
-zeros-xor (suc n) [] h = absurd (omega arith)
-zeros-xor (suc n) (a ∷ x) h = ap (λ (s : List ℕ). a ∷ s) (zeros-xor n x (omega arith))
 
 pub xor-block : {x y : List ℕ} → ByteBlock x → ByteBlock y → ByteBlock (xorBytes x y)
 xor-block {x} {y} h g = record { size = length-xor x y (h .size ∙ sym (g .size)) ∙ h .size; bytes = xor-bytes (h .bytes) (g .bytes) }

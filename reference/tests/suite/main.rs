@@ -7,6 +7,7 @@ mod calendar;
 mod calendars;
 mod cases;
 mod cipher;
+mod cmac_steps;
 mod dated;
 mod dated_order;
 mod des;

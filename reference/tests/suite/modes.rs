@@ -6,53 +6,72 @@ use crate::random::Random;
 use crate::support::{cmac, decrypt, encrypt, hex, hex_block, CLASSES};
 use reference::modes::{cbc_decrypt, cbc_encrypt, cmac_subkeys, cmac_with};
 
-fn xor(a: [u8; 8], b: [u8; 8]) -> [u8; 8] {
+pub fn xor(a: [u8; 8], b: [u8; 8]) -> [u8; 8] {
     std::array::from_fn(|i| a[i] ^ b[i])
 }
 
-/// The three-key TDEA key of SP 800-38B, appendix D.
-const TDEA: [u64; 3] = [0x8aa83bf8cbda1062, 0x0bc1bf19fbb6cd58, 0xbc313d4a371ca8b5];
-
-/// The two-key TDEA key of SP 800-38B, appendix D.
-const TWO_KEY_TDEA: [u64; 3] = [0x4cf15134a2850dd5, 0x8a3d10ba80570d38, 0x4cf15134a2850dd5];
-
-/// The message of SP 800-38B, appendix D.
-const MESSAGE: &str = "6bc1bee2 2e409f96 e93d7e11 7393172a ae2d8a57 1e03ac9c 9eb76fac 45af8e51";
-
-#[test]
-fn cmac_subkeys_of_sp_800_38b_with_des_ede3() {
-    let ciph = |block| ede_encrypt(TDEA, block);
-    assert_eq!(ciph([0; 8]), hex_block("c8cc74e9 8a7329a2"));
-    let (k1, k2) = cmac_subkeys(&ciph);
-    assert_eq!(k1, hex_block("9198e9d3 14e6535f"));
-    assert_eq!(k2, hex_block("2331d3a6 29cca6a5"));
+/// What SP 800-38B, appendix D, prints of one key: L, K1, K2, and for each
+/// example the bytes of the message and the CMAC.
+pub struct Printed {
+    pub keys: [u64; 3],
+    pub l: &'static str,
+    pub k1: &'static str,
+    pub k2: &'static str,
+    pub examples: [(usize, &'static str); 4],
 }
 
-#[test]
-fn cmac_examples_of_sp_800_38b_with_des_ede3() {
-    let ciph = |block| ede_encrypt(TDEA, block);
-    let message = hex(MESSAGE);
-    for (length, mac) in [
+/// Three-key TDEA of SP 800-38B, appendix D.
+const THREE_KEY_TDEA: Printed = Printed {
+    keys: [0x8aa83bf8cbda1062, 0x0bc1bf19fbb6cd58, 0xbc313d4a371ca8b5],
+    l: "c8cc74e9 8a7329a2",
+    k1: "9198e9d3 14e6535f",
+    k2: "2331d3a6 29cca6a5",
+    examples: [
         (0, "b7a688e1 22ffaf95"),
         (8, "8e8f2931 36283797"),
         (20, "743ddbe0 ce2dc2ed"),
         (32, "33e6b109 2400eae5"),
-    ] {
-        assert_eq!(cmac_with(&ciph, &message[..length]), hex_block(mac));
-    }
-}
+    ],
+};
 
-#[test]
-fn cmac_examples_of_sp_800_38b_with_two_key_des_ede() {
-    let ciph = |block| ede_encrypt(TWO_KEY_TDEA, block);
-    let message = hex(MESSAGE);
-    for (length, mac) in [
+/// Two-key TDEA of SP 800-38B, appendix D.
+const TWO_KEY_TDEA: Printed = Printed {
+    keys: [0x4cf15134a2850dd5, 0x8a3d10ba80570d38, 0x4cf15134a2850dd5],
+    l: "c7679b9f 6b8d7d7a",
+    k1: "8ecf373e d71afaef",
+    k2: "1d9e6e7d ae35f5c5",
+    examples: [
         (0, "bd2ebf9a 3ba00361"),
         (8, "4ff2ab81 3c53ce83"),
         (20, "62dd1b47 1902bd4e"),
         (32, "31b1e431 dabc4eb8"),
-    ] {
-        assert_eq!(cmac_with(&ciph, &message[..length]), hex_block(mac));
+    ],
+};
+
+pub const PRINTED: [Printed; 2] = [THREE_KEY_TDEA, TWO_KEY_TDEA];
+
+/// The message of SP 800-38B, appendix D.
+pub const MESSAGE: &str = "6bc1bee2 2e409f96 e93d7e11 7393172a ae2d8a57 1e03ac9c 9eb76fac 45af8e51";
+
+#[test]
+fn cmac_subkeys_of_sp_800_38b_with_des_ede() {
+    for printed in PRINTED {
+        let ciph = |block| ede_encrypt(printed.keys, block);
+        assert_eq!(ciph([0; 8]), hex_block(printed.l));
+        let (k1, k2) = cmac_subkeys(&ciph);
+        assert_eq!(k1, hex_block(printed.k1));
+        assert_eq!(k2, hex_block(printed.k2));
+    }
+}
+
+#[test]
+fn cmac_examples_of_sp_800_38b_with_des_ede() {
+    let message = hex(MESSAGE);
+    for printed in PRINTED {
+        let ciph = |block| ede_encrypt(printed.keys, block);
+        for (length, mac) in printed.examples {
+            assert_eq!(cmac_with(&ciph, &message[..length]), hex_block(mac));
+        }
     }
 }
 
@@ -155,9 +174,13 @@ fn cmac_with_mcrypton_at_every_length_to_70_and_at_200() {
     }
 }
 
+/// K1 of L and K2 of K1, without a condition.
+pub fn double(x: u64) -> u64 {
+    (x << 1) ^ (0x1b * (x >> 63))
+}
+
 /// CMAC by another road: CBC over the whole padded message, last block taken.
 fn cmac_spelt_out(key: &[u8], message: &[u8]) -> [u8; 8] {
-    let double = |x: u64| (x << 1) ^ (0x1b * (x >> 63));
     let l = u64::from_be_bytes(encrypt(key, [0; 8]));
     let (k1, k2) = (double(l), double(double(l)));
     let mut padded = message.to_vec();

@@ -31,6 +31,7 @@ fn the_program_prints_each_kind_of_vectors() {
         ("blocks", blocks()),
         ("keys", keys()),
         ("cmac", cmacs()),
+        ("steps", steps()),
         ("cbc", cbc()),
         ("sheet", sheet()),
     ] {
@@ -80,6 +81,8 @@ fn anything_else_gives_usage_and_status_64() {
         &["vectors"],
         &["vectors", "all"],
         &["vectors", "blocks", "keys"],
+        &["vectors", "steps", "4"],
+        &["steps"],
         &["list", "file"],
         &["dates", "2000"],
         &["Vectors", "blocks"],

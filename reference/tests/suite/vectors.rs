@@ -3,11 +3,24 @@
 use crate::edition::Edition;
 use crate::support::*;
 use reference::cipher::phi_of_key;
+use reference::modes::cmac_steps;
 use reference::vectors;
 
 fn lines(text: &str) -> Vec<Vec<&str>> {
     assert!(text.ends_with('\n'));
     text.lines().map(|line| line.split(' ').collect()).collect()
+}
+
+/// The key of t words with number s.
+fn numbered_key(t: usize, s: usize) -> Vec<u8> {
+    let byte = |i| (29 * i + 71 * s + 13) % 256;
+    (0..2 * t).map(|i| byte(i) as u8).collect()
+}
+
+/// The text of a length with number s.
+fn numbered_text(s: usize, length: usize) -> Vec<u8> {
+    let byte = |i| (53 * i + 31 * s + 7) % 256;
+    (0..length).map(|i| byte(i) as u8).collect()
 }
 
 #[test]
@@ -56,6 +69,81 @@ fn cmacs() {
     assert_eq!(lines[0][..2], ["4", "0"]);
     assert_eq!(hex_block(lines[0][2]), cmac(&key, b""));
     assert_eq!(lines[29][..2], ["8", "200"]);
+}
+
+/// Message lengths of `vectors steps`, and how many blocks CMAC cuts each into.
+const STEPS_LENGTHS: [(usize, usize); 8] = [
+    (0, 1),
+    (1, 1),
+    (7, 1),
+    (8, 1),
+    (9, 2),
+    (16, 2),
+    (200, 25),
+    (300, 38),
+];
+
+/// The names of `vectors steps` for a message of n blocks.
+fn step_names(n: usize) -> Vec<String> {
+    let mut names = ["L", "K1", "K2"].map(String::from).to_vec();
+    names.extend((0..=n).map(|i| format!("C{i}")));
+    names.push("T".to_string());
+    names
+}
+
+#[test]
+fn steps() {
+    let text = vectors::steps();
+    let lines = lines(&text);
+    let mut expected = Vec::new();
+    for t in CLASSES {
+        for (length, n) in STEPS_LENGTHS {
+            expected.extend(step_names(n).into_iter().map(|name| (t, length, name)));
+        }
+    }
+    assert_eq!(expected.len(), 333);
+    assert_eq!(lines.len(), expected.len());
+    for (line, (t, length, name)) in lines.iter().zip(expected) {
+        assert_eq!(line[..3], [t.to_string(), length.to_string(), name]);
+        assert_eq!(line.len(), 4);
+        assert_eq!(line[3].len(), 16);
+        let lower_case_hex = |digit| matches!(digit, b'0'..=b'9' | b'a'..=b'f');
+        assert!(line[3].bytes().all(lower_case_hex));
+    }
+    // t = 4, empty message.
+    let key = numbered_key(4, 0);
+    assert_eq!(lines[0][..3], ["4", "0", "L"]);
+    assert_eq!(hex_block(lines[0][3]), encrypt(&key, [0; 8]));
+    assert_eq!(lines[3], ["4", "0", "C0", "0000000000000000"]);
+    assert_eq!(hex_block(lines[5][3]), cmac(&key, b""));
+}
+
+#[test]
+fn steps_agree_with_the_library_and_with_the_cmacs() {
+    let text = vectors::steps();
+    let mut rest = &lines(&text)[..];
+    for t in CLASSES {
+        for (length, n) in STEPS_LENGTHS {
+            let lines;
+            (lines, rest) = rest.split_at(n + 5);
+            let values: Vec<[u8; 8]> = lines.iter().map(|line| hex_block(line[3])).collect();
+            let key = numbered_key(t, length);
+            let message = numbered_text(length, length);
+            let steps = cmac_steps(&|block| encrypt(&key, block), &message);
+            assert_eq!(values[..3], [steps.l, steps.k1, steps.k2]);
+            assert_eq!(values[3..n + 4], steps.chain);
+            assert_eq!(values[n + 4], cmac(&key, &message));
+            assert_eq!(values[n + 4], values[n + 3]);
+        }
+    }
+    assert!(rest.is_empty());
+    let printed_cmacs = vectors::cmacs();
+    for line in text.lines().filter(|line| line.contains(" T ")) {
+        if !line.contains(" 300 ") {
+            let line = format!("{}\n", line.replace(" T ", " "));
+            assert!(printed_cmacs.contains(&line));
+        }
+    }
 }
 
 #[test]
@@ -118,12 +206,6 @@ fn sheet() {
     }
 }
 
-/// The key of `vectors sheet` with number s.
-fn sheet_key(t: usize, s: usize) -> Vec<u8> {
-    let byte = |i| (29 * i + 71 * s + 13) % 256;
-    (0..2 * t).map(|i| byte(i) as u8).collect()
-}
-
 /// The sheet of `vectors sheet` after its clear.
 fn cleared_sheet(keys: &(Vec<u8>, Vec<u8>), t: usize) -> Vec<u8> {
     let seventeen: Vec<u8> = (0..17).map(|i| ((53 * i + 7) % 256) as u8).collect();
@@ -142,7 +224,7 @@ fn sheet_with_twin_keys_and_near_twins() {
     let text = vectors::sheet();
     let lines = lines(&text);
     for (lines, t) in lines.chunks(SHEET_LINES).zip(CLASSES) {
-        let keys = (sheet_key(t, t), sheet_key(t, t + 1));
+        let keys = (numbered_key(t, t), numbered_key(t, t + 1));
         let mut sheet = cleared_sheet(&keys, t);
         let before = sheet.clone();
         let printed_mac = |line: usize| hex_block(lines[line][3]);

@@ -1,12 +1,12 @@
 //! CMAC of messages of many lengths, its refusals, and the second program's
-//! CMAC with DES-EDE3 beside openssl's.
+//! CMAC with DES-EDE3 beside openssl's, its chaining values too.
 
 use differential::both::Both;
 use differential::lent::Place;
 use differential::random::{seed, Random};
 use differential::sheets::CLASSES;
 use differential::{des, openssl, report};
-use reference::modes::cmac_with;
+use reference::modes::{cmac_steps, cmac_with};
 use reference::Answer;
 
 fn both(test: &str) -> Both {
@@ -105,5 +105,31 @@ fn the_second_program_s_cmac_with_des_ede3_is_openssl_s() {
     }
     report(&format!(
         "cmac: the second program's with DES-EDE3 equals that of {version}, {compared} messages"
+    ));
+}
+
+/// Each chaining value with a cipher that openssl has: C_1 to C_n are CBC of M_1
+/// to M_n from C_0, and L is one block.
+#[test]
+fn the_second_program_s_chaining_values_with_des_ede3_are_openssl_s() {
+    let Some(version) = openssl::version() else {
+        report("cmac: skipped: no openssl with DES-EDE3 and CBC here");
+        return;
+    };
+    let mut random = Random::of_part(204);
+    let mut compared = 0;
+    for length in [0, 1, 7, 8, 9, 15, 16, 17, 200, 300] {
+        let key = [random.number(), random.number(), random.number()];
+        let steps = cmac_steps(&|block| des::ede_encrypt(key, block), &random.bytes(length));
+        let at = format!("length {length}, seed {:#x}", seed());
+        let l = openssl::blocks(key, &[0; 8]).expect("openssl answers");
+        assert_eq!(steps.l.to_vec(), l, "{at}");
+        assert_eq!(steps.chain[0], [0; 8], "{at}");
+        let values = openssl::cbc(key, steps.chain[0], &steps.blocks.concat(), true);
+        assert_eq!(Some(steps.chain[1..].concat()), values, "{at}");
+        compared += steps.chain.len();
+    }
+    report(&format!(
+        "cmac: the second program's L and C_i with DES-EDE3 equal those of {version}, {compared} values"
     ));
 }
