@@ -94,11 +94,16 @@ static void row(const char *name, call *before, call *after)
     printf("| %s | %.3f | %.3f | %.3f |\n", name, median(b) / 1000, median(a) / 1000, middle);
 }
 
+/* Of edition 1, laid out here: every library takes one, whatever its blanking makes. */
 static void full_sheet(size_t n)
 {
+    static const uint8_t header[8] = {0, 0, 8, 1};
     slots = n;
     bytes = 8 + 208 * n;
-    captions_blank(sheet, bytes, n, 8);
+    memset(sheet, 0, sizeof sheet);
+    memcpy(sheet, header, sizeof header);
+    sheet[0] = (uint8_t)(n / 256);
+    sheet[1] = (uint8_t)(n % 256);
     for (size_t i = 0; i < n; i++)
         captions_write(sealing, 16, checking, 16, sheet, bytes, i, text, 192);
 }

@@ -60,8 +60,9 @@ enum {
                                      check output isn't 8, a window isn't 192;
                                      blanking: slots isn't 1 to 256, or the
                                      sheet isn't CAPTIONS_SHEET(slots) bytes */
-    CAPTIONS_UNFIT_SHEET = 4,     /* shorter than 8 bytes, or any rule of the
-                                     layout broken, in any slot; a term sheet
+    CAPTIONS_UNFIT_SHEET = 4,     /* shorter than 8 bytes, neither edition 1
+                                     nor 2, or any rule of its layout broken,
+                                     in any slot; a term sheet
                                      with another slot count than the sheet's,
                                      not CAPTIONS_TERMS(slots) bytes, or with a
                                      day above CAPTIONS_LAST_DAY, in any slot */
@@ -91,7 +92,8 @@ enum {
 
 #define CAPTIONS_BLOCK 8     /* bytes of a block, and of its output */
 #define CAPTIONS_CHECK 8     /* bytes of a check (CMAC) */
-#define CAPTIONS_HEADER 8    /* bytes of a sheet before its marks */
+#define CAPTIONS_HEADER 16   /* bytes of a sheet before its marks */
+#define CAPTIONS_HEADER_1 8  /* the same of a sheet of edition 1 */
 #define CAPTIONS_MARK 16     /* bytes of a slot's mark */
 #define CAPTIONS_FIELD 192   /* bytes of a sealed field, of a window and of the
                                 longest caption */
@@ -99,9 +101,13 @@ enum {
 #define CAPTIONS_LISTING 6836 /* bytes of the longest listing */
 #define CAPTIONS_LAST_DAY 36524 /* 2099-12-31; day 0 is 2000-01-01 */
 
-/* The bytes of a sheet with that many slots, 1 to CAPTIONS_SLOTS. */
+/* The bytes of a sheet with that many slots, 1 to CAPTIONS_SLOTS. Blanking
+ * makes sheets of edition 2. A sheet of edition 1, which has no serial, is
+ * still read, written and cleared, and has the bytes of CAPTIONS_SHEET_1. */
 #define CAPTIONS_SHEET(slots)                                                  \
     (CAPTIONS_HEADER + (CAPTIONS_MARK + CAPTIONS_FIELD) * (size_t)(slots))
+#define CAPTIONS_SHEET_1(slots)                                                \
+    (CAPTIONS_HEADER_1 + (CAPTIONS_MARK + CAPTIONS_FIELD) * (size_t)(slots))
 
 /* The bytes of a term sheet for a sheet with that many slots: the slot count,
  * the opening days of all slots, then the closing days, each number 2 bytes,
@@ -128,11 +134,17 @@ captions_answer captions_cmac(const uint8_t *key, size_t key_len,
                               const uint8_t *message, size_t message_len,
                               uint8_t *out, size_t out_len);
 
-/* Makes the bytes of sheet a sheet of blank slots for keys of key_words 16-bit
- * words: 4, 6 or 8 for keys of 8, 12 or 16 bytes. What the bytes were doesn't
- * matter. Refusals: WRONG_KEY, WRONG_SPAN. */
+/* Makes the bytes of sheet, CAPTIONS_SHEET(slots), a sheet of blank slots for
+ * keys of key_words 16-bit words: 4, 6 or 8 for keys of 8, 12 or 16 bytes. What
+ * the bytes were doesn't matter. Write numbers begin again at 1, so give every
+ * sheet that a pair of keys serves a serial of its own, a sheet that is blanked
+ * again a new one: sheets with unlike serials never seal from the same start.
+ * Any serial is taken; with 0 a sheet seals as one of edition 1 does, so keys
+ * that served a sheet of edition 1 have used 0.
+ * Refusals: WRONG_KEY, WRONG_SPAN. */
 captions_answer captions_blank(uint8_t *sheet, size_t sheet_len,
-                               size_t slots, size_t key_words);
+                               size_t slots, size_t key_words,
+                               uint16_t serial);
 
 /* Writes a caption of 0 to 192 bytes into a slot, counted from 0, in place of
  * what the slot held. One pair of keys serves a sheet.

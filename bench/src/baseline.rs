@@ -466,13 +466,15 @@ pub fn cmac<S: Style>(key: &[u8], message: &[u8], out: &mut [u8]) -> Answer {
 
 const FIELD: usize = 192;
 
-/// The sizes of a fit sheet, and its last write number.
+/// The sizes of a fit sheet, its last write number and its serial.
 struct Header {
     n: usize,
     t: usize,
     w: u32,
     /// The bytes before the marks.
     bytes: usize,
+    /// 0 in edition 1.
+    serial: u16,
 }
 
 impl Header {
@@ -487,10 +489,15 @@ impl Header {
     }
 }
 
-/// The bytes of an edition's header; none for an unknown edition.
-fn header_bytes(edition: u8) -> Option<usize> {
-    match edition {
-        1 => Some(8),
+/// The bytes of the header and the serial, by byte 3; none for an unknown edition
+/// and where the six bytes after a serial aren't zero.
+fn edition(sheet: &[u8]) -> Option<(usize, u16)> {
+    match sheet.get(3)? {
+        1 => Some((8, 0)),
+        2 => {
+            let rest = load(sheet.get(8..16)?);
+            (rest << 16 == 0).then_some((16, (rest >> 48) as u16))
+        }
         _ => None,
     }
 }
@@ -506,7 +513,7 @@ fn fit_header<S: Style>(sheet: &[u8]) -> Option<Header> {
     let n = usize::from(u16::from_be_bytes([head[0], head[1]]));
     let t = usize::from(head[2]);
     let w = u32::from_be_bytes([head[4], head[5], head[6], head[7]]);
-    let bytes = header_bytes(head[3])?;
+    let (bytes, serial) = edition(sheet)?;
     let sized = (1..=256).contains(&n) && matches!(t, 4 | 6 | 8) && sheet.len() == bytes + 208 * n;
     if !sized {
         return None;
@@ -515,7 +522,13 @@ fn fit_header<S: Style>(sheet: &[u8]) -> Option<Header> {
     let mut slots = marks.chunks_exact(16).zip(fields.chunks_exact(FIELD));
     slots
         .all(|(mark, field)| slot_fits::<S>(w, mark, field))
-        .then_some(Header { n, t, w, bytes })
+        .then_some(Header {
+            n,
+            t,
+            w,
+            bytes,
+            serial,
+        })
 }
 
 /// A write number of 0 leaves only a blank slot, any other only a written one.
@@ -605,7 +618,7 @@ pub fn write<S: Style>(
     by_key_length!(
         S,
         sealing_key.len(),
-        put_slot(keys, place, &plain, mark, field),
+        put_slot(keys, place, header.serial, &plain, mark, field),
         ()
     );
     Answer::accepted(0)
@@ -614,12 +627,13 @@ pub fn write<S: Style>(
 fn put_slot<S: Style, R: Register>(
     (sealing_key, checking_key): (&[u8], &[u8]),
     (write_number, slot, length): (u32, usize, u16),
+    serial: u16,
     plain: &[u8; FIELD],
     mark: &mut [u8],
     field: &mut [u8],
 ) {
     let key = R::of_key(sealing_key);
-    let mut chain = S::encrypt(key, numbers(write_number, slot, 0));
+    let mut chain = S::encrypt(key, numbers(write_number, slot, serial));
     for (block, out) in plain.chunks_exact(8).zip(field.chunks_exact_mut(8)) {
         chain = S::encrypt(key, chain ^ load(block));
         out.copy_from_slice(&chain.to_be_bytes());
@@ -652,8 +666,8 @@ pub fn read<S: Style>(
 
 type KeyPair<'a> = (&'a [u8], &'a [u8]);
 
-/// The mark and the field of a slot.
-type Slot<'a> = (&'a [u8], &'a [u8]);
+/// The mark and the field of a slot, and the sheet's serial.
+type Slot<'a> = (&'a [u8], &'a [u8], u16);
 
 /// Tests 1 to 4 of a read.
 #[inline(always)]
@@ -686,7 +700,8 @@ fn written_slot<'a>(sheet: &'a [u8], header: &Header, slot: usize) -> Result<Slo
     if load(mark) >> 32 == 0 {
         return Err(BLANK);
     }
-    Ok((mark, &sheet[header.field(slot)..][..FIELD]))
+    let field = &sheet[header.field(slot)..][..FIELD];
+    Ok((mark, field, header.serial))
 }
 
 fn shown_slot<S: Style>(keys: KeyPair, slot: usize, written: Slot, window: &mut [u8]) -> Answer {
@@ -701,7 +716,7 @@ fn shown_slot<S: Style>(keys: KeyPair, slot: usize, written: Slot, window: &mut 
 fn opened_slot<S: Style, R: Register>(
     (sealing_key, checking_key): KeyPair,
     slot: usize,
-    (mark, field): Slot,
+    (mark, field, serial): Slot,
     window: &mut [u8],
 ) -> Answer {
     let write_number = (load(mark) >> 32) as u32;
@@ -711,7 +726,7 @@ fn opened_slot<S: Style, R: Register>(
         return Answer::refused(ALTERED);
     }
     let key = R::of_key(sealing_key);
-    let before = S::encrypt(key, numbers(write_number, slot, 0));
+    let before = S::encrypt(key, numbers(write_number, slot, serial));
     S::decrypt_field(key, before, field, window);
     if !all_zero(&window[usize::from(length)..]) {
         window.fill(0);

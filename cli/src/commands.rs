@@ -59,8 +59,8 @@ fn run_command(name: &str, words: &Words) -> Result<(), Failure> {
 }
 
 fn blank(file: &Path, slots: &OsStr, bits: &OsStr, words: &Words) -> Result<(), Failure> {
-    let slots = number("SLOTS", slots)?;
-    let sheet = blank_sheet(slots, number("BITS", bits)?)?;
+    let (slots, bits) = (number("SLOTS", slots)?, number("BITS", bits)?);
+    let sheet = blank_sheet(slots, bits, serial(words.operand(3))?)?;
     sheet_file::create(file, wait(words)?, &sheet, words.has("--force"))
 }
 
@@ -153,7 +153,7 @@ fn import(file: &Path, keys: &Path, words: &Words) -> Result<(), Failure> {
 fn keys(file: &Path, bits: &OsStr, words: &Words) -> Result<(), Failure> {
     let bits = number("BITS", bits)?;
     // The library says which keys there are.
-    blank_sheet(1, bits)?;
+    blank_sheet(1, bits, 0)?;
     let keys = Keys::random(bits / 8)?;
     sheet_file::create_private(file, wait(words)?, keys.text().as_bytes())
 }
@@ -215,6 +215,13 @@ fn number(name: &str, word: &OsStr) -> Result<usize, Failure> {
         return Err(Failure::Usage(message));
     }
     Ok(digits.parse().unwrap_or(usize::MAX))
+}
+
+/// A serial: the library takes every one, so one that is no 16-bit number never
+/// gets there.
+fn serial(word: &OsStr) -> Result<u16, Failure> {
+    u16::try_from(number("SERIAL", word)?)
+        .map_err(|_| Failure::Usage(format!("SERIAL is 0 to 65535, not {}", shown(word))))
 }
 
 /// How long to wait for a folder's lock.

@@ -35,19 +35,26 @@ const WAIT: (&str, &str) = (
 pub const PAGES: [Page; 13] = [
     Page {
         name: "blank",
-        operands: &["FILE", "SLOTS", "BITS"],
+        operands: &["FILE", "SLOTS", "BITS", "SERIAL"],
         options: &[("--force", "blank a FILE that exists"), WAIT],
         instead: None,
-        usage: "FILE SLOTS BITS [--force] [--wait SECONDS]",
+        usage: "FILE SLOTS BITS SERIAL [--force] [--wait SECONDS]",
         summary: "make a sheet of blank slots",
         about: "\
 Makes FILE a sheet of SLOTS blank slots, 1 to 256, for keys of BITS bits: 64,
 96 or 128.
 
+Write numbers begin at 1 on every new sheet. SERIAL, 0 to 65535, keeps sheets
+apart that the same keys serve: captions of sheets with unlike serials are never
+sealed from the same start. With the same serial the same write number and slot
+seal from the same start, which shows where an old and a new caption begin
+alike. So count up from 1: a serial for each sheet, a new one each time a sheet
+is blanked for the next venue, and new keys when all are used. The command can't
+know which you have used, so it never chooses one. With serial 0 a sheet seals
+as sheets without a serial do: keys that served one of those have used 0.
+
 A FILE that exists is left alone (exit status 74) unless --force is given: all
-its captions would be lost, and write numbers begin again at 1. So give a sheet
-that is blanked again new keys: the same keys, write number and slot seal from
-the same start, which shows where an old and a new caption begin alike.
+its captions would be lost.
 ",
         statuses: &[1, 3, 75, 79],
     },
@@ -363,7 +370,7 @@ const OPTIONS: [(&str, &str); 3] = [
     ("--", "the words after it are no options"),
 ];
 
-const OPERANDS: [(&str, &str); 7] = [
+const OPERANDS: [(&str, &str); 8] = [
     (
         "FILE",
         "a sheet or a term sheet; - is standard input where it is only read",
@@ -371,6 +378,10 @@ const OPERANDS: [(&str, &str); 7] = [
     ("SLOT", "a slot of the sheet, numbered from 0"),
     ("SLOTS", "the number of slots, 1 to 256"),
     ("BITS", "the length of a key: 64, 96 or 128"),
+    (
+        "SERIAL",
+        "a number, 0 to 65535: another one for each sheet under the same keys",
+    ),
     (
         "KEYS",
         "a file with two lines of hex digits, the sealing key and the\nchecking key; - is standard input",
@@ -416,7 +427,9 @@ is then the other's, whole, and a write number may be used for both.
 What a sheet can't tell:
 An old sheet put back in the place of a newer one is a sound sheet: it lists,
 reads and verifies as it did. Note the last write number elsewhere if that
-matters. Neither does a sheet tell that a slot was cleared by somebody else.
+matters. Neither does a sheet tell that a slot was cleared by somebody else, or
+that its serial was changed: then a caption of eight bytes or more reads with
+other bytes in its first eight places.
 
 Messages:
 Standard error has a line for every exit status but 0; a refusal's last line is

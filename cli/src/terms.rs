@@ -33,7 +33,7 @@ impl Term {
 /// A term sheet in which no slot is ever on show.
 pub fn blank(slots: usize) -> Result<Vec<u8>, Refusal> {
     // The library says how many slots there can be.
-    blank_sheet(slots, 64)?;
+    blank_sheet(slots, 64, 0)?;
     let mut numbers = vec![u16::try_from(slots).unwrap_or_default()];
     numbers.extend(vec![Term::NEVER.opening; slots]);
     numbers.extend(vec![Term::NEVER.closing; slots]);
@@ -101,7 +101,7 @@ fn numbers(sheet: &[u8]) -> impl Iterator<Item = u16> + Clone + '_ {
 /// so: a dated read of a blank sheet with as many slots comes as far as "blank".
 fn slots_with(sheet: &[u8], slot: usize) -> Result<usize, Refusal> {
     let slots = numbers(sheet).next().map_or(0, usize::from);
-    let blank = blank_sheet(slots, 64).map_err(|_| Refusal::UnfitSheet)?;
+    let blank = blank_sheet(slots, 64, 0).map_err(|_| Refusal::UnfitSheet)?;
     let (sealing, checking, mut window) = ([0; 8], [1; 8], [0; FIELD]);
     match captions::dated_read(&sealing, &checking, &blank, sheet, slot, 0, &mut window) {
         Ok(_) | Err(Refusal::Blank) => Ok(slots),

@@ -1,7 +1,7 @@
 //! Second program for mCrypton caption sheets.
 //!
 //! It is written from documents 01 (the scope) and 02 (the change requests, of
-//! them requests 1 and 2), document 000 (the mCrypton paper) and the NIST
+//! them requests 1 to 3), document 000 (the mCrypton paper) and the NIST
 //! standards SP 800-38A (CBC) and SP 800-38B (CMAC) alone, to be read beside
 //! them and compared with, not to be fast.
 //!
@@ -54,8 +54,8 @@ pub const WRONG_KEY: u8 = 1;
 pub const TWIN_KEYS: u8 = 2;
 /// A block, output, window or buffer has the wrong length; blanking: n isn't 1 to 256.
 pub const WRONG_SPAN: u8 = 3;
-/// The sheet is shorter than 8 bytes or breaks a rule of the layout; the term
-/// sheet has another n, another length or a day above 36524.
+/// The sheet is shorter than its header or breaks a rule of the layout; the
+/// term sheet has another n, another length or a day above 36524.
 pub const UNFIT_SHEET: u8 = 4;
 /// The key bytes aren't 2 × t.
 pub const OTHER_KEY_CLASS: u8 = 5;

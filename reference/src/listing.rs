@@ -1,11 +1,11 @@
-//! The listing (document 01, after cases A to M).
+//! The listing (document 01, after cases A to M; document 02, request 3).
 
 use crate::sheet::{fit_header, mark_of, Edition, Header, MOST_SLOTS};
 
-/// The most bytes a sheet has: 256 slots, 53256 bytes.
+/// The most bytes a sheet has: 256 slots of edition 2, 53264 bytes.
 pub const MOST_BYTES: usize = Edition::BLANKED.sheet_length(MOST_SLOTS);
 
-/// The listing text of a sheet; an unfit one, or one above 53256 bytes, gives
+/// The listing text of a sheet; an unfit one, or one above 53264 bytes, gives
 /// "unfit" alone on its line.
 pub fn listing(sheet: &[u8]) -> Vec<u8> {
     text(sheet).into_bytes()

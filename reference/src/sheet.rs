@@ -1,5 +1,6 @@
 //! The sheet: layout, blanking, writing, clearing, reading (document 01, "The
-//! sheet" and "What the kiosk shows instead of a caption").
+//! sheet" and "What the kiosk shows instead of a caption"; document 02, request
+//! 3).
 
 use crate::cipher::{decrypt, encrypt, Block, Register};
 use crate::modes::{cbc_decrypt, cbc_encrypt, cmac_with};
@@ -7,6 +8,7 @@ use crate::{
     refuse_if, Answer, ALTERED, BLANK, NO_SUCH_SLOT, OTHER_KEY_CLASS, OVERLONG, TWIN_KEYS,
     UNFIT_SHEET, WORN, WRONG_KEY, WRONG_SPAN,
 };
+use std::array::from_fn;
 use std::ops::Range;
 
 /// The bytes of a mark.
@@ -20,16 +22,18 @@ pub const MOST_SLOTS: usize = 256;
 #[derive(Clone, Copy)]
 pub(crate) enum Edition {
     One,
+    Two,
 }
 
 impl Edition {
     /// The edition that blanking makes.
-    pub(crate) const BLANKED: Edition = Edition::One;
+    pub(crate) const BLANKED: Edition = Edition::Two;
 
     /// The edition of byte 3; none if there is no such edition.
     fn of_number(number: u8) -> Option<Edition> {
         match number {
             1 => Some(Edition::One),
+            2 => Some(Edition::Two),
             _ => None,
         }
     }
@@ -38,6 +42,7 @@ impl Edition {
     fn number(self) -> u8 {
         match self {
             Edition::One => 1,
+            Edition::Two => 2,
         }
     }
 
@@ -45,6 +50,7 @@ impl Edition {
     const fn header(self) -> usize {
         match self {
             Edition::One => 8,
+            Edition::Two => 16,
         }
     }
 
@@ -81,19 +87,28 @@ pub(crate) struct Header {
     pub(crate) t: usize,
     edition: Edition,
     pub(crate) w: u32,
+    /// Edition 1 has none, and two zero bytes in its place in the start block.
+    serial: [u8; 2],
+    /// The six bytes after the serial; edition 1 has none.
+    zeros: [u8; 6],
 }
 
 impl Header {
-    /// None if the sheet is shorter than 8 bytes or there is no such edition.
+    /// None if there is no such edition or the sheet is shorter than its header.
     fn of_sheet(sheet: &[u8]) -> Option<Header> {
-        if sheet.len() < 8 {
-            return None;
-        }
+        let edition = Edition::of_number(*sheet.get(3)?)?;
+        let header = sheet.get(..edition.header())?;
+        let (serial, zeros) = match edition {
+            Edition::One => ([0; 2], [0; 6]),
+            Edition::Two => ([header[8], header[9]], from_fn(|i| header[10 + i])),
+        };
         Some(Header {
-            n: number(&sheet[0..2]) as usize,
-            t: usize::from(sheet[2]),
-            edition: Edition::of_number(sheet[3])?,
-            w: number(&sheet[4..8]),
+            n: number(&header[0..2]) as usize,
+            t: usize::from(header[2]),
+            edition,
+            w: number(&header[4..8]),
+            serial,
+            zeros,
         })
     }
 
@@ -124,7 +139,7 @@ impl Mark {
             write_number: number(&bytes[0..4]),
             length: number(&bytes[4..6]) as u16,
             zeros: [bytes[6], bytes[7]],
-            check: std::array::from_fn(|i| bytes[8 + i]),
+            check: from_fn(|i| bytes[8 + i]),
         }
     }
 
@@ -160,6 +175,7 @@ pub(crate) fn fit_header(sheet: &[u8]) -> Option<Header> {
     let header = Header::of_sheet(sheet)?;
     let fits = is_slot_count(header.n)
         && is_key_class(header.t)
+        && all_zero(&header.zeros)
         && sheet.len() == header.sheet_length()
         && (0..header.n).all(|slot| slot_fits(sheet, &header, slot));
     fits.then_some(header)
@@ -197,25 +213,24 @@ pub(crate) fn mark_of(sheet: &[u8], header: &Header, slot: usize) -> Option<Mark
 // ---- What is sealed and checked ----
 
 /// The start block: the sealing key's sealed form of write number, slot and
-/// two zero bytes.
-fn start_block(sealing_key: Register, write_number: u32, slot: usize) -> Block {
+/// serial (edition 1: two zero bytes).
+fn start_block(sealing_key: Register, header: &Header, write_number: u32, slot: usize) -> Block {
     let [a, b, c, d] = write_number.to_be_bytes();
     let [e, f] = (slot as u16).to_be_bytes();
-    encrypt(sealing_key, [a, b, c, d, e, f, 0, 0])
+    let [g, h] = header.serial;
+    encrypt(sealing_key, [a, b, c, d, e, f, g, h])
 }
 
 /// The caption followed by zero bytes up to 192, sealed by CBC.
-fn sealed_field(key: Register, write_number: u32, slot: usize, caption: &[u8]) -> Vec<u8> {
+fn sealed_field(key: Register, start: Block, caption: &[u8]) -> Vec<u8> {
     let mut plain = caption.to_vec();
     plain.resize(FIELD, 0);
-    let start = start_block(key, write_number, slot);
     let blocks = plain.as_chunks::<8>().0;
     cbc_encrypt(&|block| encrypt(key, block), start, blocks).concat()
 }
 
 /// A sealed field opened by CBC.
-fn opened_field(key: Register, write_number: u32, slot: usize, field: &[u8]) -> Vec<u8> {
-    let start = start_block(key, write_number, slot);
+fn opened_field(key: Register, start: Block, field: &[u8]) -> Vec<u8> {
     let blocks = field.as_chunks::<8>().0;
     cbc_decrypt(&|block| decrypt(key, block), start, blocks).concat()
 }
@@ -251,14 +266,16 @@ pub(crate) fn tested_header(sheet: &[u8]) -> Result<Header, u8> {
 
 // ---- Blanking ----
 
-/// Blanking: stores n, t, edition 1, w = 0 and zeros. Refusals 1 and 3.
-pub fn blank(sheet: &mut [u8], n: usize, t: usize) -> Answer {
+/// Blanking: stores n, t, edition 2, w = 0, the serial and zeros. Refusals 1
+/// and 3.
+pub fn blank(sheet: &mut [u8], n: usize, t: usize, serial: u16) -> Answer {
     match blanking_tests(sheet, n, t) {
         Ok(()) => {
             sheet.fill(0);
             sheet[0..2].copy_from_slice(&(n as u16).to_be_bytes());
             sheet[2] = t as u8;
             sheet[3] = Edition::BLANKED.number();
+            sheet[8..10].copy_from_slice(&serial.to_be_bytes());
             Answer::accepted(0)
         }
         Err(number) => Answer::refused(number),
@@ -314,7 +331,8 @@ fn tested_write(
     let write_number = header.w.checked_add(1).ok_or(WORN)?;
 
     let length = caption.len() as u16;
-    let field = sealed_field(sealing, write_number, slot, caption);
+    let start = start_block(sealing, &header, write_number, slot);
+    let field = sealed_field(sealing, start, caption);
     let mark = Mark {
         write_number,
         length,
@@ -410,7 +428,8 @@ pub(crate) fn tested_caption(
     let field = &sheet[header.field_place(slot)];
     let true_check = check(checking, mark.write_number, slot, mark.length, field);
     refuse_if(mark.check != true_check, ALTERED)?;
-    let opened = opened_field(sealing, mark.write_number, slot, field);
+    let start = start_block(sealing, header, mark.write_number, slot);
+    let opened = opened_field(sealing, start, field);
     refuse_if(!all_zero(&opened[usize::from(mark.length)..]), ALTERED)?;
     Ok(Caption {
         length: mark.length,

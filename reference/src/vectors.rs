@@ -157,17 +157,33 @@ fn cbc_both_ways(key: &[u8], n: usize, text: &[u8]) -> (Vec<u8>, Vec<u8>) {
     (encrypted.concat(), decrypted.concat())
 }
 
-/// A list of calls on a sheet of three slots, for each t.
+/// A list of calls on a sheet of three slots, for each t: on a blanked one,
+/// then on an edition 1 sheet.
 pub fn sheet() -> String {
-    CLASSES.map(sheet_of_class).concat()
+    CLASSES
+        .map(|t| on_blanked_sheet(t) + &on_old_sheet(t))
+        .concat()
 }
 
-fn sheet_of_class(t: usize) -> String {
+/// The list on a sheet blanked with the serial 0x5a00 + t.
+fn on_blanked_sheet(t: usize) -> String {
+    let mut sheet = vec![0xff; Edition::BLANKED.sheet_length(3)];
+    let answer = blank(&mut sheet, 3, t, 0x5a00 + t as u16);
+    list_of_calls(t, "blank", answer, sheet)
+}
+
+/// The list on a blank sheet of edition 1, which no call makes.
+fn on_old_sheet(t: usize) -> String {
+    let mut sheet = vec![0; Edition::One.sheet_length(3)];
+    sheet[0..4].copy_from_slice(&[0, 3, t as u8, 1]);
+    list_of_calls(t, "old", Answer::accepted(0), sheet)
+}
+
+/// The list, after a line that says where the sheet comes from.
+fn list_of_calls(t: usize, origin: &str, answer: Answer, mut sheet: Vec<u8>) -> String {
     let sealing = key(t, t);
     let checking = key(t, t + 1);
-    let mut sheet = vec![0xff; Edition::BLANKED.sheet_length(3)];
-    let answer = blank(&mut sheet, 3, t);
-    let mut lines = call_line("blank", answer, &checking, &sheet);
+    let mut lines = call_line(origin, answer, &checking, &sheet);
     lines += &accepted_writes(&sealing, &checking, &mut sheet);
     let answer = clear(&mut sheet, 0);
     lines += &call_line("clear", answer, &checking, &sheet);

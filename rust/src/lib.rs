@@ -13,7 +13,7 @@
 //! let sealing_key = *b"seal it.";
 //! let checking_key = *b"check it";
 //! let mut sheet = vec![0; sheet_len(2)];
-//! blank(&mut sheet, 2, 4)?;
+//! blank(&mut sheet, 2, 4, 1)?;
 //! write(&sealing_key, &checking_key, &mut sheet, 1, b"Vase, 1751")?;
 //!
 //! let mut window = [0; FIELD];
@@ -46,7 +46,9 @@ pub const BLOCK: usize = 8;
 /// The bytes of a check (CMAC).
 pub const CHECK: usize = 8;
 /// The bytes of a sheet before its marks.
-pub const HEADER: usize = 8;
+pub const HEADER: usize = 16;
+/// The same of a sheet of edition 1.
+pub const HEADER_1: usize = 8;
 /// The bytes of a slot's mark.
 pub const MARK: usize = 16;
 /// The bytes of a sealed field, of a window and of the longest caption.
@@ -59,13 +61,26 @@ pub const LISTING: usize = 6836;
 pub const LAST_DAY: u16 = 36524;
 
 /// The bytes of a sheet with that many slots; `usize::MAX` where that is less.
+/// Blanking makes such sheets, of edition 2.
 ///
 /// ```
-/// assert_eq!(captions::sheet_len(1), 216);
-/// assert_eq!(captions::sheet_len(captions::SLOTS), 53256);
+/// assert_eq!(captions::sheet_len(1), 224);
+/// assert_eq!(captions::sheet_len(captions::SLOTS), 53264);
 /// ```
 pub const fn sheet_len(slots: usize) -> usize {
     slots.saturating_mul(MARK + FIELD).saturating_add(HEADER)
+}
+
+/// The bytes of a sheet of edition 1 with that many slots; `usize::MAX` where
+/// that is less. Such a sheet has no serial; it is still read, written, cleared
+/// and listed, and no longer made.
+///
+/// ```
+/// assert_eq!(captions::sheet_len_1(1), 216);
+/// assert_eq!(captions::sheet_len_1(captions::SLOTS), 53256);
+/// ```
+pub const fn sheet_len_1(slots: usize) -> usize {
+    slots.saturating_mul(MARK + FIELD).saturating_add(HEADER_1)
 }
 
 /// The bytes of a term sheet for a sheet with that many slots; `usize::MAX`
@@ -155,6 +170,12 @@ pub fn cmac(key: &[u8], message: &[u8], out: &mut [u8]) -> Result<(), Refusal> {
 /// keys of `key_words` 16-bit words: 4, 6 or 8 for keys of 8, 12 or 16 bytes.
 /// What the buffer held doesn't matter.
 ///
+/// Write numbers begin again at 1, so give every sheet that a pair of keys
+/// serves a `serial` of its own, a sheet that is blanked again a new one: sheets
+/// with unlike serials never seal from the same start. Any serial is taken; with
+/// 0 a sheet seals as one of edition 1 does, so keys that served a sheet of
+/// edition 1 have used 0.
+///
 /// # Errors
 ///
 /// [`Refusal::WrongKey`] for another number of words, [`Refusal::WrongSpan`]
@@ -165,14 +186,15 @@ pub fn cmac(key: &[u8], message: &[u8], out: &mut [u8]) -> Result<(), Refusal> {
 /// use captions::{blank, list, sheet_len, Refusal};
 ///
 /// let mut sheet = vec![0xff; sheet_len(2)];
-/// blank(&mut sheet, 2, 4)?;
+/// blank(&mut sheet, 2, 4, 1)?;
 /// assert_eq!(list(&sheet), b"slots 2 key 64 last 0\n0 blank\n1 blank\n");
-/// assert_eq!(blank(&mut sheet, 2, 5), Err(Refusal::WrongKey));
-/// assert_eq!(blank(&mut sheet, 3, 4), Err(Refusal::WrongSpan));
+/// assert_eq!(sheet[8..10], [0, 1]);
+/// assert_eq!(blank(&mut sheet, 2, 5, 2), Err(Refusal::WrongKey));
+/// assert_eq!(blank(&mut sheet, 3, 4, 2), Err(Refusal::WrongSpan));
 /// # Ok::<(), Refusal>(())
 /// ```
-pub fn blank(sheet: &mut [u8], slots: usize, key_words: usize) -> Result<(), Refusal> {
-    done(library::blank(sheet, slots, key_words))
+pub fn blank(sheet: &mut [u8], slots: usize, key_words: usize, serial: u16) -> Result<(), Refusal> {
+    done(library::blank(sheet, slots, key_words, serial))
 }
 
 /// Writes a caption of 0 to 192 bytes into a slot, counted from 0, in place of
@@ -190,7 +212,7 @@ pub fn blank(sheet: &mut [u8], slots: usize, key_words: usize) -> Result<(), Ref
 ///
 /// let (sealing_key, checking_key) = ([1; 12], [2; 12]);
 /// let mut sheet = vec![0; sheet_len(1)];
-/// blank(&mut sheet, 1, 6)?;
+/// blank(&mut sheet, 1, 6, 1)?;
 /// write(&sealing_key, &checking_key, &mut sheet, 0, b"Clock")?;
 /// write(&sealing_key, &checking_key, &mut sheet, 0, b"Clock, 1790")?;
 /// assert_eq!(list(&sheet), b"slots 1 key 96 last 2\n0 written 2 11\n");
@@ -226,7 +248,7 @@ pub fn write(
 /// use captions::{blank, clear, list, sheet_len, write, Refusal};
 ///
 /// let mut sheet = vec![0; sheet_len(1)];
-/// blank(&mut sheet, 1, 4)?;
+/// blank(&mut sheet, 1, 4, 1)?;
 /// write(&[1; 8], &[2; 8], &mut sheet, 0, b"Clock")?;
 /// clear(&mut sheet, 0)?;
 /// assert_eq!(list(&sheet), b"slots 1 key 64 last 1\n0 blank\n");
@@ -251,7 +273,7 @@ pub fn clear(sheet: &mut [u8], slot: usize) -> Result<(), Refusal> {
 /// use captions::{blank, read, sheet_len, write, Refusal, FIELD};
 ///
 /// let mut sheet = vec![0; sheet_len(2)];
-/// blank(&mut sheet, 2, 4)?;
+/// blank(&mut sheet, 2, 4, 1)?;
 /// write(&[1; 8], &[2; 8], &mut sheet, 0, b"Clock")?;
 /// let mut window = [0xff; FIELD];
 /// let length = read(&[1; 8], &[2; 8], &sheet, 0, &mut window)?;
@@ -288,7 +310,7 @@ pub fn read(
 /// use captions::{blank, dated_read, day_of_date, sheet_len, write, Refusal, FIELD};
 ///
 /// let mut sheet = vec![0; sheet_len(1)];
-/// blank(&mut sheet, 1, 4)?;
+/// blank(&mut sheet, 1, 4, 1)?;
 /// write(&[1; 8], &[2; 8], &mut sheet, 0, b"Clock")?;
 /// let (opening, closing) = (day_of_date(2026, 5, 1)?, day_of_date(2026, 10, 31)?);
 /// let terms = [1, opening, closing].map(u16::to_be_bytes).concat();

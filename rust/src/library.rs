@@ -62,6 +62,7 @@ mod c {
             sheet_len: usize,
             slots: usize,
             key_words: usize,
+            serial: u16,
         ) -> Answer;
         pub fn captions_write(
             sealing_key: *const u8,
@@ -155,9 +156,9 @@ pub fn cmac(key: &[u8], message: &[u8], out: &mut [u8]) -> Answer {
     }
 }
 
-pub fn blank(sheet: &mut [u8], slots: usize, key_words: usize) -> Answer {
+pub fn blank(sheet: &mut [u8], slots: usize, key_words: usize, serial: u16) -> Answer {
     // SAFETY: as at the head of this file.
-    unsafe { c::captions_blank(sheet.as_mut_ptr(), sheet.len(), slots, key_words) }
+    unsafe { c::captions_blank(sheet.as_mut_ptr(), sheet.len(), slots, key_words, serial) }
 }
 
 pub fn write(

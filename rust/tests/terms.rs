@@ -129,7 +129,7 @@ impl Call {
     fn new() -> Call {
         let (sealing, checking) = (vec![1; 8], vec![2; 8]);
         let mut sheet = vec![0; sheet_len(SLOTS)];
-        blank(&mut sheet, SLOTS, 4).unwrap();
+        blank(&mut sheet, SLOTS, 4, 1).unwrap();
         write(&sealing, &checking, &mut sheet, SLOT, b"Clock").unwrap();
         Call {
             sealing,
@@ -236,7 +236,7 @@ fn a_term_sheet_has_the_sheets_slots_its_length_and_no_day_past_the_last() {
 #[test]
 fn the_largest_term_sheet() {
     let mut sheet = vec![0; sheet_len(256)];
-    blank(&mut sheet, 256, 4).unwrap();
+    blank(&mut sheet, 256, 4, 1).unwrap();
     let mut call = Call::new();
     write(&call.sealing, &call.checking, &mut sheet, 255, b"Vase").unwrap();
     let mut terms = vec![(LAST_DAY, 0); 256];

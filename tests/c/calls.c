@@ -19,7 +19,18 @@ static unsigned long checks, failures;
 
 #define SLOTS 3
 #define SHEET CAPTIONS_SHEET(SLOTS)
+#define SERIAL 0x1234
 #define UNTOUCHED 0xa5
+
+/* An edition: byte 3, the bytes before the marks, and those of a sheet. */
+struct edition {
+    uint8_t number;
+    size_t header, size;
+};
+static const struct edition editions[] = {
+    {1, CAPTIONS_HEADER_1, CAPTIONS_SHEET_1(SLOTS)},
+    {2, CAPTIONS_HEADER, SHEET},
+};
 
 /* One byte more than the longest key; a call takes as many as it is told. */
 static const uint8_t sealing[17] = {0x0d, 0x2a, 0x47, 0x64, 0x81, 0x9e,
@@ -152,55 +163,96 @@ static void checks_by_cmac(void)
 
 /* ---- Sheets ---- */
 
+/* The bytes of a sheet, by the edition in its byte 3. */
+static size_t size_of(const uint8_t *sheet)
+{
+    return editions[sheet[3] - 1].size;
+}
+
 static captions_answer write_as(uint8_t *sheet, size_t key_len, size_t slot,
                                 const void *caption, size_t length)
 {
-    return captions_write(sealing, key_len, checking, key_len, sheet, SHEET,
-                          slot, (const uint8_t *)caption, length);
+    return captions_write(sealing, key_len, checking, key_len, sheet,
+                          size_of(sheet), slot, (const uint8_t *)caption,
+                          length);
 }
 
 static captions_answer read_as(const uint8_t *sheet, size_t key_len,
                                size_t slot, uint8_t *window)
 {
-    return captions_read(sealing, key_len, checking, key_len, sheet, SHEET,
-                         slot, window, CAPTIONS_FIELD);
+    return captions_read(sealing, key_len, checking, key_len, sheet,
+                         size_of(sheet), slot, window, CAPTIONS_FIELD);
+}
+
+static captions_answer blank_as(uint8_t *sheet, size_t sheet_len, size_t slots,
+                                size_t key_words)
+{
+    return captions_blank(sheet, sheet_len, slots, key_words, SERIAL);
 }
 
 static void blanking(void)
 {
-    uint8_t sheet[SHEET + 1], header[CAPTIONS_HEADER] = {0, SLOTS, 6, 1};
+    static const uint16_t serials[] = {0, 1, 255, 256, 65535, SERIAL};
+    uint8_t sheet[SHEET + 1];
+    size_t i;
     memset(sheet, UNTOUCHED, sizeof sheet);
-    CHECK(refused(captions_blank(sheet, SHEET, SLOTS, 5), CAPTIONS_WRONG_KEY));
-    CHECK(refused(captions_blank(sheet, 0, 0, 0), CAPTIONS_WRONG_KEY));
-    CHECK(refused(captions_blank(sheet, CAPTIONS_HEADER, 0, 4),
+    CHECK(refused(blank_as(sheet, SHEET, SLOTS, 5), CAPTIONS_WRONG_KEY));
+    CHECK(refused(blank_as(sheet, 0, 0, 0), CAPTIONS_WRONG_KEY));
+    CHECK(refused(blank_as(sheet, CAPTIONS_HEADER, 0, 4),
                   CAPTIONS_WRONG_SPAN));
-    CHECK(refused(captions_blank(sheet, SHEET, 257, 4), CAPTIONS_WRONG_SPAN));
-    CHECK(refused(captions_blank(sheet, SHEET, (size_t)-1, 4),
+    CHECK(refused(blank_as(sheet, SHEET, 257, 4), CAPTIONS_WRONG_SPAN));
+    CHECK(refused(blank_as(sheet, SHEET, (size_t)-1, 4),
                   CAPTIONS_WRONG_SPAN));
-    CHECK(refused(captions_blank(sheet, SHEET - 1, SLOTS, 4),
+    CHECK(refused(blank_as(sheet, SHEET - 1, SLOTS, 4),
                   CAPTIONS_WRONG_SPAN));
-    CHECK(refused(captions_blank(sheet, SHEET + 1, SLOTS, 4),
+    CHECK(refused(blank_as(sheet, SHEET + 1, SLOTS, 4),
+                  CAPTIONS_WRONG_SPAN));
+    CHECK(refused(blank_as(sheet, CAPTIONS_SHEET_1(SLOTS), SLOTS, 4),
                   CAPTIONS_WRONG_SPAN));
     CHECK(all(sheet, sizeof sheet, UNTOUCHED));
-    CHECK(accepted(captions_blank(sheet, SHEET, SLOTS, 6)));
-    CHECK(same(sheet, header, CAPTIONS_HEADER));
-    CHECK(all(sheet + CAPTIONS_HEADER, SHEET - CAPTIONS_HEADER, 0));
-    CHECK(sheet[SHEET] == UNTOUCHED);
+    /* Each serial over the bytes of the sheet before. */
+    for (i = 0; i < sizeof serials / sizeof serials[0]; i++) {
+        uint8_t header[CAPTIONS_HEADER] = {0, SLOTS, 6, 2};
+        header[8] = (uint8_t)(serials[i] >> 8);
+        header[9] = (uint8_t)serials[i];
+        CHECK(accepted(captions_blank(sheet, SHEET, SLOTS, 6, serials[i])));
+        CHECK(same(sheet, header, CAPTIONS_HEADER));
+        CHECK(all(sheet + CAPTIONS_HEADER, SHEET - CAPTIONS_HEADER, 0));
+        CHECK(sheet[SHEET] == UNTOUCHED);
+        CHECK(accepted(write_as(sheet, 12, 0, "Vase", 4)));
+    }
 }
 
+/* A blank sheet of an edition; laid out here where no call makes it. */
+static void make_blank(const struct edition *edition, uint8_t *sheet,
+                       size_t key_words)
+{
+    if (edition->number == 2) {
+        CHECK(accepted(blank_as(sheet, SHEET, SLOTS, key_words)));
+        return;
+    }
+    memset(sheet, 0, edition->size);
+    sheet[1] = SLOTS;
+    sheet[2] = (uint8_t)key_words;
+    sheet[3] = edition->number;
+}
+
+
 /* A caption goes in and comes out, at each key length. */
-static void writing_and_reading(size_t key_len)
+static void writing_and_reading(const struct edition *edition, size_t key_len)
 {
     static const char first[] = "Vase, 1752", second[] = "Vase, 1751";
     uint8_t sheet[SHEET], before[SHEET], window[CAPTIONS_FIELD];
     uint8_t longest[CAPTIONS_FIELD];
     memset(longest, 'x', sizeof longest);
-    CHECK(accepted(captions_blank(sheet, SHEET, SLOTS, key_len / 2)));
+    make_blank(edition, sheet, key_len / 2);
     CHECK(accepted(write_as(sheet, key_len, 0, first, sizeof first - 1)));
     CHECK(sheet[7] == 1);
     CHECK(accepted(write_as(sheet, key_len, 2, longest, sizeof longest)));
     CHECK(accepted(write_as(sheet, key_len, 0, second, sizeof second - 1)));
-    CHECK(sheet[7] == 3);
+    make_blank(edition, before, key_len / 2);
+    before[7] = 3;
+    CHECK(same(sheet, before, edition->header));
 
     memset(window, UNTOUCHED, sizeof window);
     CHECK(is(read_as(sheet, key_len, 0, window), 0, sizeof second - 1));
@@ -216,38 +268,66 @@ static void writing_and_reading(size_t key_len)
     CHECK(is(read_as(sheet, key_len, 1, window), 0, 0));
     CHECK(all(window, sizeof window, 0));
 
-    memcpy(before, sheet, SHEET);
-    CHECK(accepted(captions_clear(sheet, SHEET, 0)));
-    CHECK(same(sheet, before, CAPTIONS_HEADER));
-    CHECK(all(sheet + CAPTIONS_HEADER, CAPTIONS_MARK, 0));
+    memcpy(before, sheet, edition->size);
+    CHECK(accepted(captions_clear(sheet, edition->size, 0)));
+    CHECK(same(sheet, before, edition->header));
+    CHECK(all(sheet + edition->header, CAPTIONS_MARK, 0));
     CHECK(refused(read_as(sheet, key_len, 0, window), CAPTIONS_BLANK));
-    memcpy(before, sheet, SHEET);
-    CHECK(accepted(captions_clear(sheet, SHEET, 0)));
-    CHECK(same(sheet, before, SHEET));
+    memcpy(before, sheet, edition->size);
+    CHECK(accepted(captions_clear(sheet, edition->size, 0)));
+    CHECK(same(sheet, before, edition->size));
 }
 
 /* A sheet with a caption in slot 1, for keys of 8 bytes. */
-static void make_sheet(uint8_t *sheet)
+static void make_sheet(const struct edition *edition, uint8_t *sheet)
 {
-    CHECK(accepted(captions_blank(sheet, SHEET, SLOTS, 4)));
+    make_blank(edition, sheet, 4);
     CHECK(accepted(write_as(sheet, 8, 1, "Clock", 5)));
 }
 
-static void write_refusals(void)
+/* Where the sealed field of slot 1 begins. */
+static size_t field_place(const struct edition *edition)
+{
+    return edition->header + CAPTIONS_MARK * SLOTS + CAPTIONS_FIELD;
+}
+
+/* The caption of make_sheet, opened from a start block that is put together
+ * here: write number, slot, and the serial or two zero bytes. */
+static void start_block(const struct edition *edition)
+{
+    uint8_t plain[CAPTIONS_BLOCK] = {0, 0, 0, 1, 0, 1}, start[CAPTIONS_BLOCK];
+    uint8_t sheet[SHEET], opened[CAPTIONS_BLOCK];
+    size_t i;
+    make_sheet(edition, sheet);
+    if (edition->number == 2) {
+        plain[6] = SERIAL >> 8;
+        plain[7] = SERIAL & 0xff;
+    }
+    CHECK(accepted(captions_encrypt_block(sealing, 8, plain, 8, 0, start, 8)));
+    CHECK(accepted(captions_decrypt_block(sealing, 8,
+                                          sheet + field_place(edition), 8, 0,
+                                          opened, 8)));
+    for (i = 0; i < CAPTIONS_BLOCK; i++)
+        opened[i] ^= start[i];
+    CHECK(memcmp(opened, "Clock\0\0", CAPTIONS_BLOCK) == 0);
+}
+
+static void write_refusals(const struct edition *edition)
 {
     uint8_t sheet[SHEET], before[SHEET], overlong[CAPTIONS_FIELD + 1] = {0};
-    make_sheet(sheet);
-    memcpy(before, sheet, SHEET);
-    CHECK(refused(captions_write(sealing, 7, checking, 7, sheet, SHEET, 0,
+    size_t size = edition->size;
+    make_sheet(edition, sheet);
+    memcpy(before, sheet, size);
+    CHECK(refused(captions_write(sealing, 7, checking, 7, sheet, size, 0,
                                  overlong, 1),
                   CAPTIONS_WRONG_KEY));
-    CHECK(refused(captions_write(sealing, 8, checking, 12, sheet, SHEET, 0,
+    CHECK(refused(captions_write(sealing, 8, checking, 12, sheet, size, 0,
                                  overlong, 1),
                   CAPTIONS_WRONG_KEY));
-    CHECK(refused(captions_write(sealing, 8, sealing, 8, sheet, SHEET, 0,
+    CHECK(refused(captions_write(sealing, 8, sealing, 8, sheet, size, 0,
                                  overlong, 1),
                   CAPTIONS_TWIN_KEYS));
-    CHECK(refused(captions_write(sealing, 8, checking, 8, sheet, SHEET - 1, 0,
+    CHECK(refused(captions_write(sealing, 8, checking, 8, sheet, size - 1, 0,
                                  overlong, 1),
                   CAPTIONS_UNFIT_SHEET));
     CHECK(refused(captions_write(sealing, 8, checking, 8, sheet, 0, 0,
@@ -259,26 +339,27 @@ static void write_refusals(void)
                   CAPTIONS_NO_SUCH_SLOT));
     CHECK(refused(write_as(sheet, 8, 0, overlong, sizeof overlong),
                   CAPTIONS_OVERLONG));
-    CHECK(same(sheet, before, SHEET));
+    CHECK(same(sheet, before, size));
 
     memset(sheet + 4, 0xff, 4);
-    memcpy(before, sheet, SHEET);
+    memcpy(before, sheet, size);
     CHECK(refused(write_as(sheet, 8, 0, "x", 1), CAPTIONS_WORN));
-    CHECK(same(sheet, before, SHEET));
+    CHECK(same(sheet, before, size));
     sheet[7] = 0xfe;
     CHECK(accepted(write_as(sheet, 8, 0, "x", 1)));
     CHECK(refused(write_as(sheet, 8, 0, "x", 1), CAPTIONS_WORN));
 }
 
-static void clear_refusals(void)
+static void clear_refusals(const struct edition *edition)
 {
     uint8_t sheet[SHEET], before[SHEET];
-    make_sheet(sheet);
-    memcpy(before, sheet, SHEET);
-    CHECK(refused(captions_clear(sheet, SHEET - 1, 0), CAPTIONS_UNFIT_SHEET));
+    size_t size = edition->size;
+    make_sheet(edition, sheet);
+    memcpy(before, sheet, size);
+    CHECK(refused(captions_clear(sheet, size - 1, 0), CAPTIONS_UNFIT_SHEET));
     CHECK(refused(captions_clear(sheet, 0, 0), CAPTIONS_UNFIT_SHEET));
-    CHECK(refused(captions_clear(sheet, SHEET, SLOTS), CAPTIONS_NO_SUCH_SLOT));
-    CHECK(same(sheet, before, SHEET));
+    CHECK(refused(captions_clear(sheet, size, SLOTS), CAPTIONS_NO_SUCH_SLOT));
+    CHECK(same(sheet, before, size));
 }
 
 /* Whether a read is refused with this number and zeroes its whole window. */
@@ -297,37 +378,37 @@ static int read_refused(int number, const uint8_t *sealing_key,
            all(window + window_len, sizeof window - window_len, UNTOUCHED);
 }
 
-static void read_refusals(void)
+static void read_refusals(const struct edition *edition)
 {
     uint8_t sheet[SHEET], window[CAPTIONS_FIELD];
-    size_t field = CAPTIONS_HEADER + CAPTIONS_MARK * SLOTS + CAPTIONS_FIELD;
-    make_sheet(sheet);
+    size_t field = field_place(edition), size = edition->size;
+    make_sheet(edition, sheet);
     CHECK(read_refused(CAPTIONS_WRONG_KEY, sealing, 9, checking, 9, sheet,
-                       SHEET, 1, 192));
+                       size, 1, 192));
     CHECK(read_refused(CAPTIONS_WRONG_KEY, sealing, 8, checking, 16, sheet,
-                       SHEET, 1, 192));
+                       size, 1, 192));
     CHECK(read_refused(CAPTIONS_TWIN_KEYS, sealing, 8, sealing, 8, sheet,
-                       SHEET, 1, 192));
+                       size, 1, 192));
     CHECK(read_refused(CAPTIONS_WRONG_SPAN, sealing, 8, checking, 8, sheet,
-                       SHEET, 1, 191));
+                       size, 1, 191));
     CHECK(read_refused(CAPTIONS_WRONG_SPAN, sealing, 8, checking, 8, sheet,
-                       SHEET, 1, 193));
+                       size, 1, 193));
     CHECK(read_refused(CAPTIONS_WRONG_SPAN, sealing, 8, checking, 8, sheet,
-                       SHEET, 1, 0));
+                       size, 1, 0));
     CHECK(read_refused(CAPTIONS_UNFIT_SHEET, sealing, 8, checking, 8, sheet,
-                       SHEET - 1, 1, 192));
+                       size - 1, 1, 192));
     CHECK(read_refused(CAPTIONS_UNFIT_SHEET, sealing, 8, checking, 8, sheet, 0,
                        1, 192));
     CHECK(read_refused(CAPTIONS_OTHER_KEY_CLASS, sealing, 16, checking, 16,
-                       sheet, SHEET, 1, 192));
+                       sheet, size, 1, 192));
     CHECK(read_refused(CAPTIONS_NO_SUCH_SLOT, sealing, 8, checking, 8, sheet,
-                       SHEET, SLOTS, 192));
-    CHECK(read_refused(CAPTIONS_BLANK, sealing, 8, checking, 8, sheet, SHEET,
+                       size, SLOTS, 192));
+    CHECK(read_refused(CAPTIONS_BLANK, sealing, 8, checking, 8, sheet, size,
                        0, 192));
-    CHECK(read_refused(CAPTIONS_ALTERED, checking, 8, sealing, 8, sheet, SHEET,
+    CHECK(read_refused(CAPTIONS_ALTERED, checking, 8, sealing, 8, sheet, size,
                        1, 192));
     sheet[field] ^= 1;
-    CHECK(read_refused(CAPTIONS_ALTERED, sealing, 8, checking, 8, sheet, SHEET,
+    CHECK(read_refused(CAPTIONS_ALTERED, sealing, 8, checking, 8, sheet, size,
                        1, 192));
     sheet[field] ^= 1;
     CHECK(is(read_as(sheet, 8, 1, window), 0, 5));
@@ -432,30 +513,32 @@ static int shown(const uint8_t *sheet, const uint8_t *terms, size_t day)
     uint8_t window[CAPTIONS_FIELD];
     captions_answer answer;
     memset(window, UNTOUCHED, sizeof window);
-    answer = captions_dated_read(sealing, 8, checking, 8, sheet, SHEET, terms,
-                                 TERMS, 1, day, window, sizeof window);
+    answer = captions_dated_read(sealing, 8, checking, 8, sheet,
+                                 size_of(sheet), terms, TERMS, 1, day, window,
+                                 sizeof window);
     return is(answer, CAPTIONS_ACCEPTED, 5) &&
            memcmp(window, "Clock", 5) == 0 && all(window + 5, 187, 0);
 }
 
-static void dated_reads(void)
+static void dated_reads(const struct edition *edition)
 {
     uint8_t sheet[SHEET], terms[TERMS + 1] = {0};
-    make_sheet(sheet);
+    size_t size = edition->size;
+    make_sheet(edition, sheet);
     make_terms(terms);
     CHECK(TERMS == 14 && CAPTIONS_TERMS(CAPTIONS_SLOTS) == 1026);
     CHECK(shown(sheet, terms, OPENING));
     CHECK(shown(sheet, terms, CLOSING));
-    CHECK(dated_refused(CAPTIONS_NOT_ON_SHOW, 8, checking, sheet, SHEET, terms,
+    CHECK(dated_refused(CAPTIONS_NOT_ON_SHOW, 8, checking, sheet, size, terms,
                         TERMS, 1, OPENING - 1, 192));
-    CHECK(dated_refused(CAPTIONS_NOT_ON_SHOW, 8, checking, sheet, SHEET, terms,
+    CHECK(dated_refused(CAPTIONS_NOT_ON_SHOW, 8, checking, sheet, size, terms,
                         TERMS, 1, CLOSING + 1, 192));
     put_number(terms, 2, CLOSING);
     CHECK(shown(sheet, terms, CLOSING));
     put_number(terms, 2, CLOSING + 1);
-    CHECK(dated_refused(CAPTIONS_NOT_ON_SHOW, 8, checking, sheet, SHEET, terms,
+    CHECK(dated_refused(CAPTIONS_NOT_ON_SHOW, 8, checking, sheet, size, terms,
                         TERMS, 1, CLOSING, 192));
-    CHECK(dated_refused(CAPTIONS_NOT_ON_SHOW, 8, checking, sheet, SHEET, terms,
+    CHECK(dated_refused(CAPTIONS_NOT_ON_SHOW, 8, checking, sheet, size, terms,
                         TERMS, 1, CLOSING + 1, 192));
     put_number(terms, 2, 0);
     put_number(terms, 5, CAPTIONS_LAST_DAY);
@@ -464,12 +547,12 @@ static void dated_reads(void)
 }
 
 /* In the order of the tests; what stands later in it is wrong too. */
-static void dated_read_refusals(void)
+static void dated_read_refusals(const struct edition *edition)
 {
     uint8_t sheet[SHEET], terms[TERMS + 1] = {0};
-    size_t field = CAPTIONS_HEADER + CAPTIONS_MARK * SLOTS + CAPTIONS_FIELD;
+    size_t field = field_place(edition), size = edition->size;
     size_t place;
-    make_sheet(sheet);
+    make_sheet(edition, sheet);
     make_terms(terms);
     CHECK(dated_refused(CAPTIONS_WRONG_KEY, 7, sealing, sheet, 0, terms, 0,
                         SLOTS, (size_t)-1, 191));
@@ -477,40 +560,83 @@ static void dated_read_refusals(void)
                         SLOTS, (size_t)-1, 191));
     CHECK(dated_refused(CAPTIONS_WRONG_SPAN, 12, checking, sheet, 0, terms, 0,
                         SLOTS, (size_t)-1, 191));
-    CHECK(dated_refused(CAPTIONS_WRONG_SPAN, 8, checking, sheet, SHEET, terms,
+    CHECK(dated_refused(CAPTIONS_WRONG_SPAN, 8, checking, sheet, size, terms,
                         TERMS, 1, OPENING, 193));
-    CHECK(dated_refused(CAPTIONS_WRONG_SPAN, 8, checking, sheet, SHEET, terms,
+    CHECK(dated_refused(CAPTIONS_WRONG_SPAN, 8, checking, sheet, size, terms,
                         TERMS, 1, OPENING, 0));
-    CHECK(dated_refused(CAPTIONS_UNFIT_SHEET, 12, checking, sheet, SHEET - 1,
+    CHECK(dated_refused(CAPTIONS_UNFIT_SHEET, 12, checking, sheet, size - 1,
                         terms, TERMS, SLOTS, (size_t)-1, 192));
-    CHECK(dated_refused(CAPTIONS_UNFIT_SHEET, 12, checking, sheet, SHEET,
+    CHECK(dated_refused(CAPTIONS_UNFIT_SHEET, 12, checking, sheet, size,
                         terms, TERMS - 1, SLOTS, (size_t)-1, 192));
-    CHECK(dated_refused(CAPTIONS_UNFIT_SHEET, 8, checking, sheet, SHEET, terms,
+    CHECK(dated_refused(CAPTIONS_UNFIT_SHEET, 8, checking, sheet, size, terms,
                         TERMS + 1, 1, OPENING, 192));
-    CHECK(dated_refused(CAPTIONS_UNFIT_SHEET, 8, checking, sheet, SHEET, terms,
+    CHECK(dated_refused(CAPTIONS_UNFIT_SHEET, 8, checking, sheet, size, terms,
                         0, 1, OPENING, 192));
     for (place = 0; place < TERMS / 2; place++) {
         /* Another slot count; a day past the last, in each slot. */
         put_number(terms, place, place == 0 ? SLOTS + 1 : 36525);
-        CHECK(dated_refused(CAPTIONS_UNFIT_SHEET, 8, checking, sheet, SHEET,
+        CHECK(dated_refused(CAPTIONS_UNFIT_SHEET, 8, checking, sheet, size,
                             terms, TERMS, 1, OPENING, 192));
         make_terms(terms);
     }
-    CHECK(dated_refused(CAPTIONS_OTHER_KEY_CLASS, 12, checking, sheet, SHEET,
+    CHECK(dated_refused(CAPTIONS_OTHER_KEY_CLASS, 12, checking, sheet, size,
                         terms, TERMS, SLOTS, 36525, 192));
-    CHECK(dated_refused(CAPTIONS_NO_SUCH_DATE, 8, checking, sheet, SHEET,
+    CHECK(dated_refused(CAPTIONS_NO_SUCH_DATE, 8, checking, sheet, size,
                         terms, TERMS, SLOTS, 36525, 192));
-    CHECK(dated_refused(CAPTIONS_NO_SUCH_DATE, 8, checking, sheet, SHEET,
+    CHECK(dated_refused(CAPTIONS_NO_SUCH_DATE, 8, checking, sheet, size,
                         terms, TERMS, 1, (size_t)-1, 192));
-    CHECK(dated_refused(CAPTIONS_NO_SUCH_SLOT, 8, checking, sheet, SHEET,
+    CHECK(dated_refused(CAPTIONS_NO_SUCH_SLOT, 8, checking, sheet, size,
                         terms, TERMS, SLOTS, OPENING, 192));
-    CHECK(dated_refused(CAPTIONS_BLANK, 8, checking, sheet, SHEET, terms,
+    CHECK(dated_refused(CAPTIONS_BLANK, 8, checking, sheet, size, terms,
                         TERMS, 2, OPENING, 192));
     sheet[field] ^= 1;
-    CHECK(dated_refused(CAPTIONS_NOT_ON_SHOW, 8, checking, sheet, SHEET, terms,
+    CHECK(dated_refused(CAPTIONS_NOT_ON_SHOW, 8, checking, sheet, size, terms,
                         TERMS, 1, 0, 192));
-    CHECK(dated_refused(CAPTIONS_ALTERED, 8, checking, sheet, SHEET, terms,
+    CHECK(dated_refused(CAPTIONS_ALTERED, 8, checking, sheet, size, terms,
                         TERMS, 1, OPENING, 192));
+}
+
+/* ---- The editions ---- */
+
+/* Whether every call finds these bytes an unfit sheet and leaves them so. */
+static int unfit(const uint8_t *bytes, size_t size)
+{
+    uint8_t sheet[SHEET], terms[TERMS], out[6];
+    memcpy(sheet, bytes, size);
+    make_terms(terms);
+    return read_refused(CAPTIONS_UNFIT_SHEET, sealing, 8, checking, 8, sheet,
+                        size, 1, 192) &&
+           dated_refused(CAPTIONS_UNFIT_SHEET, 8, checking, sheet, size, terms,
+                         TERMS, 1, OPENING, 192) &&
+           refused(captions_write(sealing, 8, checking, 8, sheet, size, 1,
+                                  sealing, 1),
+                   CAPTIONS_UNFIT_SHEET) &&
+           refused(captions_clear(sheet, size, 1), CAPTIONS_UNFIT_SHEET) &&
+           captions_list(sheet, size, out, sizeof out) == sizeof out &&
+           memcmp(out, "unfit\n", sizeof out) == 0 &&
+           same(sheet, bytes, size);
+}
+
+/* Byte 3 at every value with either edition's size, and each zero byte set. */
+static void edition_rules(const struct edition *edition)
+{
+    uint8_t sheet[SHEET] = {0}, window[CAPTIONS_FIELD];
+    unsigned value;
+    size_t i;
+    make_sheet(edition, sheet);
+    for (value = 0; value < 256; value++)
+        for (i = 0; i < 2; i++) {
+            sheet[3] = (uint8_t)value;
+            CHECK((sheet[3] == edition->number && &editions[i] == edition) ||
+                  unfit(sheet, editions[i].size));
+        }
+    sheet[3] = edition->number;
+    for (i = CAPTIONS_HEADER - 6; i < edition->header; i++) {
+        sheet[i] = 1;
+        CHECK(unfit(sheet, edition->size));
+        sheet[i] = 0;
+    }
+    CHECK(is(read_as(sheet, 8, 1, window), 0, 5));
 }
 
 /* ---- Listings and words ---- */
@@ -537,17 +663,19 @@ static void listing(void)
 {
     static uint8_t largest[CAPTIONS_SHEET(CAPTIONS_SLOTS) + 1];
     static uint8_t text[CAPTIONS_LISTING];
-    uint8_t sheet[SHEET], two[CAPTIONS_SHEET(2)] = {0, 2, 4, 1};
-    size_t slot;
+    uint8_t sheet[SHEET], two[CAPTIONS_SHEET_1(2)] = {0, 2, 4, 1};
+    size_t i, slot;
     listed(two, sizeof two, "slots 2 key 64 last 0\n0 blank\n1 blank\n");
-    make_sheet(sheet);
-    listed(sheet, SHEET,
-           "slots 3 key 64 last 1\n0 blank\n1 written 1 5\n2 blank\n");
-    listed(sheet, SHEET - 1, "unfit\n");
-    listed(sheet, 0, "unfit\n");
+    for (i = 0; i < 2; i++) {
+        make_sheet(&editions[i], sheet);
+        listed(sheet, editions[i].size,
+               "slots 3 key 64 last 1\n0 blank\n1 written 1 5\n2 blank\n");
+        listed(sheet, editions[i].size - 1, "unfit\n");
+        listed(sheet, 0, "unfit\n");
+    }
 
     /* Every number of the longest listing has all its digits. */
-    CHECK(accepted(captions_blank(largest, CAPTIONS_SHEET(256), 256, 8)));
+    CHECK(accepted(blank_as(largest, CAPTIONS_SHEET(256), 256, 8)));
     memset(largest + 4, 0xff, 4);
     for (slot = 0; slot < CAPTIONS_SLOTS; slot++) {
         uint8_t *mark = largest + CAPTIONS_HEADER + CAPTIONS_MARK * slot;
@@ -581,7 +709,22 @@ static void words(void)
     CHECK(sizeof(captions_date) == 6 && offsetof(captions_date, year) == 2);
     CHECK(offsetof(captions_date, month) == 4);
     CHECK(offsetof(captions_date, day) == 5);
-    CHECK(CAPTIONS_SHEET(1) == 216 && CAPTIONS_SHEET(256) == 53256);
+    CHECK(CAPTIONS_SHEET(1) == 224 && CAPTIONS_SHEET(256) == 53264);
+    CHECK(CAPTIONS_SHEET_1(1) == 216 && CAPTIONS_SHEET_1(256) == 53256);
+}
+
+static void sheets_of(const struct edition *edition)
+{
+    writing_and_reading(edition, 8);
+    writing_and_reading(edition, 12);
+    writing_and_reading(edition, 16);
+    start_block(edition);
+    write_refusals(edition);
+    clear_refusals(edition);
+    read_refusals(edition);
+    dated_reads(edition);
+    dated_read_refusals(edition);
+    edition_rules(edition);
 }
 
 int main(void)
@@ -590,17 +733,11 @@ int main(void)
     block_refusals(captions_encrypt_block);
     block_refusals(captions_decrypt_block);
     checks_by_cmac();
-    blanking();
-    writing_and_reading(8);
-    writing_and_reading(12);
-    writing_and_reading(16);
-    write_refusals();
-    clear_refusals();
-    read_refusals();
     days_and_dates();
     no_such_dates();
-    dated_reads();
-    dated_read_refusals();
+    blanking();
+    sheets_of(&editions[0]);
+    sheets_of(&editions[1]);
     listing();
     words();
     if (failures != 0) {

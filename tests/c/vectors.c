@@ -5,7 +5,11 @@
 #include <stdio.h>
 #include <string.h>
 
-#define SHEET CAPTIONS_SHEET(3)
+/* The bytes of a sheet of three slots, by the edition in its byte 3. */
+static size_t size_of(const uint8_t *sheet)
+{
+    return sheet[3] == 1 ? CAPTIONS_SHEET_1(3) : CAPTIONS_SHEET(3);
+}
 
 /* Byte i is (step * i + start) modulo 256. */
 static void ramp(uint8_t *bytes, size_t length, size_t step, size_t start)
@@ -81,7 +85,7 @@ static void print_call(const char *call, captions_answer answer,
                        const struct keys *keys, const uint8_t *sheet)
 {
     uint8_t mac[8];
-    captions_cmac(keys->checking, keys->length, sheet, SHEET, mac, 8);
+    captions_cmac(keys->checking, keys->length, sheet, size_of(sheet), mac, 8);
     printf("%s %d %d ", call, answer.number, answer.length);
     print_hex(mac, 8, "\n");
 }
@@ -92,8 +96,8 @@ static void print_write_with(const struct keys *keys, const uint8_t *checking,
                              size_t length)
 {
     captions_answer answer = captions_write(
-        keys->sealing, keys->length, checking, keys->length, sheet, SHEET,
-        slot, (const uint8_t *)caption, length);
+        keys->sealing, keys->length, checking, keys->length, sheet,
+        size_of(sheet), slot, (const uint8_t *)caption, length);
     print_call("write", answer, keys, sheet);
 }
 
@@ -120,7 +124,7 @@ static void print_read(const struct keys *keys, const uint8_t *checking,
     captions_answer answer;
     memset(window, 0xff, sizeof window);
     answer = captions_read(keys->sealing, keys->length, checking,
-                           keys->length, sheet, SHEET, slot, window,
+                           keys->length, sheet, size_of(sheet), slot, window,
                            sizeof window);
     printf("read %lu %d %d ", (unsigned long)slot, answer.number,
            answer.length);
@@ -131,17 +135,19 @@ static void print_reads_and_listing(const struct keys *keys,
                                     const uint8_t *sheet)
 {
     uint8_t listing[CAPTIONS_LISTING];
-    size_t slot;
+    size_t slot, length;
     for (slot = 0; slot <= 3; slot++)
         print_read(keys, keys->checking, sheet, slot);
     print_read(keys, keys->sealing, sheet, 1);
-    fwrite(listing, 1, captions_list(sheet, SHEET, listing, sizeof listing),
-           stdout);
+    length = captions_list(sheet, size_of(sheet), listing, sizeof listing);
+    fwrite(listing, 1, length, stdout);
 }
 
-static void sheet_of_class(size_t words)
+/* The list, after a line that says where the sheet comes from. */
+static void list_of_calls(size_t words, const char *origin,
+                          captions_answer answer, uint8_t *sheet)
 {
-    uint8_t sheet[SHEET], seventeen[17], longest[193];
+    uint8_t seventeen[17], longest[193];
     struct keys keys;
     memset(&keys, 0, sizeof keys);
     keys.length = 2 * words;
@@ -150,18 +156,46 @@ static void sheet_of_class(size_t words)
     ramp(seventeen, sizeof seventeen, 53, 7);
     ramp(longest, sizeof longest, 31, 5);
 
-    memset(sheet, 0xff, SHEET);
-    print_call("blank", captions_blank(sheet, SHEET, 3, words), &keys, sheet);
+    print_call(origin, answer, &keys, sheet);
     print_write(&keys, sheet, 0, "", 0);
     print_write(&keys, sheet, 1, seventeen, 17);
     print_write(&keys, sheet, 2, longest, 192);
     print_write(&keys, sheet, 1, "abc", 3);
-    print_call("clear", captions_clear(sheet, SHEET, 0), &keys, sheet);
+    answer = captions_clear(sheet, size_of(sheet), 0);
+    print_call("clear", answer, &keys, sheet);
     print_read(&keys, keys.checking, sheet, 0);
     print_write(&keys, sheet, 3, "abc", 3);
     print_write(&keys, sheet, 2, longest, 193);
     print_twin_writes(&keys, sheet);
     print_reads_and_listing(&keys, sheet);
+}
+
+static void on_blanked_sheet(size_t words)
+{
+    uint8_t sheet[CAPTIONS_SHEET(3)];
+    captions_answer answer;
+    memset(sheet, 0xff, sizeof sheet);
+    answer = captions_blank(sheet, sizeof sheet, 3, words,
+                            (uint16_t)(0x5a00 + words));
+    list_of_calls(words, "blank", answer, sheet);
+}
+
+/* A blank sheet of edition 1, which no call makes. */
+static void on_old_sheet(size_t words)
+{
+    uint8_t sheet[CAPTIONS_SHEET_1(3)] = {0, 3, 0, 1};
+    captions_answer none = {0, 0};
+    sheet[2] = (uint8_t)words;
+    list_of_calls(words, "old", none, sheet);
+}
+
+static void sheets(void)
+{
+    size_t words;
+    for (words = 4; words <= 8; words += 2) {
+        on_blanked_sheet(words);
+        on_old_sheet(words);
+    }
 }
 
 int main(int count, char **words)
@@ -172,9 +206,7 @@ int main(int count, char **words)
     } else if (strcmp(kind, "cmac") == 0) {
         cmacs();
     } else if (strcmp(kind, "sheet") == 0) {
-        sheet_of_class(4);
-        sheet_of_class(6);
-        sheet_of_class(8);
+        sheets();
     } else {
         fputs("usage: vectors blocks|cmac|sheet\n", stderr);
         return 64;

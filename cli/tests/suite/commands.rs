@@ -1,5 +1,6 @@
 //! Each command, its file and its output against the second program's.
 
+use crate::edition::Edition;
 use crate::support::*;
 use crate::words;
 use std::fs;
@@ -12,10 +13,12 @@ const CLASSES: [(usize, &str); 3] = [(8, "64"), (12, "96"), (16, "128")];
 fn blank_makes_the_second_programs_sheet() {
     let scratch = Scratch::new();
     for (key_len, bits) in CLASSES {
-        for slots in [1, 2, 17, 255, 256] {
+        for (slots, serial) in [1, 2, 17, 255, 256].into_iter().zip(Edition::SERIALS) {
             let file = scratch.join(format!("{slots}-{bits}.sheet"));
-            run(&words!["blank", file, slots.to_string(), bits]).done();
-            assert_eq!(fs::read(file).unwrap(), blank_sheet(slots, key_len / 2));
+            let [n, number] = [slots.to_string(), serial.to_string()];
+            run(&words!["blank", file, n, bits, number]).done();
+            let expected = blank_sheet_with(slots, key_len / 2, serial);
+            assert_eq!(fs::read(file).unwrap(), expected);
         }
     }
     assert!(temporaries(scratch.path()).is_empty());
@@ -55,6 +58,43 @@ fn write_stores_what_the_second_program_stores() {
     }
 }
 
+/// Sheets of edition 1 are there from before; no command makes one.
+#[test]
+fn a_sheet_of_edition_1_is_read_written_cleared_and_listed() {
+    let scratch = Scratch::new();
+    let (file, keys, terms) = (
+        scratch.join("sheet"),
+        scratch.keys(8),
+        scratch.join("terms"),
+    );
+    let sheet = written(&Edition::One.blank_sheet(3, 4), 8, 1, b"Clock");
+    fs::write(&file, &sheet).unwrap();
+    fs::write(&terms, term_sheet(&[(1, 0), (9617, 9800), (1, 0)])).unwrap();
+    run(&words!["read", file, "1", keys]).printed(b"Clock");
+    let on = |date: &str| {
+        run(&words![
+            "read", file, "1", keys, "--terms", terms, "--on", date
+        ])
+    };
+    on("2026-10-31").printed(b"Clock");
+    on("2026-11-01").refused(12, "not on show");
+
+    write(&file, 0, &keys, b"Vase, 1751");
+    let sheet = written(&sheet, 8, 0, b"Vase, 1751");
+    assert_eq!(fs::read(&file).unwrap(), sheet);
+    let table = b"slot\ttext\n2\tTable\n";
+    run_with(&words!["import", file, keys], table).done();
+    let sheet = written(&sheet, 8, 2, b"Table");
+    assert_eq!(fs::read(&file).unwrap(), sheet);
+    run(&words!["clear", file, "1"]).done();
+    assert_eq!(fs::read(&file).unwrap(), cleared(&sheet, 1));
+    run(&words!["list", file])
+        .printed(b"slots 3 key 64 last 3\n0 written 2 10\n1 blank\n2 written 3 5\n");
+    run(&words!["verify", file, keys])
+        .printed(b"0 sound 10\n1 blank\n2 sound 5\nslots 3 sound 2 blank 1 altered 0\n");
+    run(&words!["export", file, keys]).printed(b"slot\ttext\n0\t\\&Vase, 1751\n1\t\n2\tTable\n");
+}
+
 #[test]
 fn read_prints_the_bytes_and_no_line_feed() {
     let scratch = Scratch::new();
@@ -84,9 +124,17 @@ fn list_prints_the_second_programs_listing() {
     let scratch = Scratch::new();
     let file = scratch.join("sheet");
     let sheet = written(&blank_sheet(3, 8), 16, 1, b"Clock");
-    let full = blank_sheet(256, 6);
+    let [old, full] = Edition::ALL.map(|edition| edition.blank_sheet(256, 6));
     let longer = [&full[..], b"\0"].concat();
-    for sheet in [&sheet[..], &full, &longer, &sheet[1..], b"", &[0; 1 << 20]] {
+    for sheet in [
+        &sheet[..],
+        &old,
+        &full,
+        &longer,
+        &sheet[1..],
+        b"",
+        &[0; 1 << 20],
+    ] {
         fs::write(&file, sheet).unwrap();
         run(&words!["list", file]).printed(&reference::listing(sheet));
     }
@@ -113,8 +161,7 @@ fn verify_tells_sound_blank_and_altered_slots() {
     run(&words!["verify", file, keys])
         .printed(b"0 blank\n1 sound 5\n2 blank\n3 sound 192\nslots 4 sound 2 blank 2 altered 0\n");
 
-    let field_of_slot_1 = 8 + 16 * 4 + 192;
-    sheet[field_of_slot_1] ^= 0x40;
+    sheet[EDITION.field_place(4, 1)][0] ^= 0x40;
     fs::write(&file, &sheet).unwrap();
     let verified = run(&words!["verify", file, keys]);
     assert_eq!(verified.status, 10);
@@ -153,7 +200,7 @@ fn names_are_taken_from_the_working_folder() {
         command.args(words).current_dir(scratch.path());
         run_command(command, stdin)
     };
-    at(&["blank", "sheet", "1", "64"], b"").done();
+    at(&["blank", "sheet", "1", "64", "1"], b"").done();
     at(&["write", "./sheet", "0", "keys-8"], b"Vase").done();
     at(&["read", "sheet", "0", "../x/../keys-8"], b"").failed(74, "../x/../keys-8");
     at(&["read", "sheet", "0", "keys-8"], b"").printed(b"Vase");
@@ -166,7 +213,7 @@ fn a_name_that_is_not_text_will_do() {
     let scratch = Scratch::new();
     let keys = scratch.keys(8);
     let file = scratch.join(std::ffi::OsStr::from_bytes(b"sheet-\xff"));
-    run(&words!["blank", file, "1", "64"]).done();
+    run(&words!["blank", file, "1", "64", "1"]).done();
     run_with(&words!["write", file, "0", keys], b"Vase").done();
     run(&words!["read", file, "0", keys]).printed(b"Vase");
 }

@@ -45,8 +45,8 @@ fn help_as_people_ask_for_it() {
     run(&["help", "open"]).failed(64, "no command open");
     run(&["help", "list", "read"]).failed(64, "help takes one command");
     run(&["list", "--", "--help"]).failed(74, "--help: No such file");
-    assert_eq!(printed(&["--version"]), "captions 0.1.0\n");
-    assert_eq!(printed(&["-V"]), "captions 0.1.0\n");
+    assert_eq!(printed(&["--version"]), "captions 0.2.0\n");
+    assert_eq!(printed(&["-V"]), "captions 0.2.0\n");
 }
 
 /// A section's items: terms, and texts with their lines joined.
@@ -116,6 +116,7 @@ fn help_has_every_status_and_what_a_sheet_cannot_tell() {
         "two changes at once can lose one of the two",
         "after a day where another machine made it",
         "neither sealed nor checked",
+        "its serial was changed",
     ] {
         assert!(all.contains(words), "{words}");
     }
@@ -133,4 +134,21 @@ fn an_old_sheet_put_back_verifies_as_sound() {
     run(&words!["write", file, "0", keys, "--text", "Vase, 1751"]).done();
     std::fs::write(&file, old).unwrap();
     run(&words!["verify", file, keys]).printed(b"0 sound 10\nslots 1 sound 1 blank 0 altered 0\n");
+}
+
+/// The same of a serial that was changed: the first eight bytes are others, and
+/// a caption is altered if it ends among them.
+#[test]
+fn a_changed_serial_changes_eight_bytes() {
+    let scratch = Scratch::new();
+    let (file, keys) = (scratch.sheet("sheet", 2, 4), scratch.keys(8));
+    run(&words!["write", file, "0", keys, "--text", "Vase, 1751"]).done();
+    run(&words!["write", file, "1", keys, "--text", "Vase"]).done();
+    let mut sheet = std::fs::read(&file).unwrap();
+    sheet[9] ^= 1;
+    std::fs::write(&file, sheet).unwrap();
+    let read = run(&words!["read", file, "0", keys]);
+    assert_eq!((read.status, &read.stdout[8..]), (0, &b"51"[..]));
+    assert_ne!(read.stdout[..8], *b"Vase, 17");
+    run(&words!["read", file, "1", keys]).refused(10, "altered");
 }

@@ -28,7 +28,7 @@ fn a_pair_of_keys_is_made() {
                 assert!(seen.insert(line.to_string()), "a key that was there before");
             }
             let file = scratch.join("sheet");
-            run(&words!["blank", file, "1", bits, "--force"]).done();
+            run(&words!["blank", file, "1", bits, "1", "--force"]).done();
             run(&words!["write", file, "0", keys, "--text", "Vase"]).done();
             run(&words!["read", file, "0", keys]).printed(b"Vase");
         }

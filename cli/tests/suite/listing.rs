@@ -42,7 +42,7 @@ fn a_verification_as_json() {
 ]}
 "#,
     );
-    sheet[8 + 16 * 3 + 192] ^= 1;
+    sheet[EDITION.field_place(3, 1)][0] ^= 1;
     fs::write(&file, &sheet).unwrap();
     let run = run(&words!["verify", file, keys, "--json"]);
     assert_eq!((run.status, run.stderr.as_str()), (10, "10 altered\n"));

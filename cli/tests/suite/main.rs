@@ -2,6 +2,9 @@
 
 mod attributes;
 mod commands;
+/// The editions, from the second program's tests.
+#[path = "../../../reference/tests/suite/edition.rs"]
+mod edition;
 mod faults;
 mod files;
 mod help;

@@ -38,7 +38,7 @@ fn wrong_key() {
         "18446744073709551616",
     ] {
         refused(
-            &words!["blank", file, "2", bits, "--force"],
+            &words!["blank", file, "2", bits, "1", "--force"],
             b"",
             &file,
             1,
@@ -88,14 +88,14 @@ fn wrong_span() {
         "99999999999999999999999",
     ] {
         refused(
-            &words!["blank", file, slots, "64", "--force"],
+            &words!["blank", file, slots, "64", "1", "--force"],
             b"",
             &file,
             3,
             "wrong span",
         );
         let new = scratch.join("new");
-        run(&words!["blank", new, slots, "64"]).refused(3, "wrong span");
+        run(&words!["blank", new, slots, "64", "1"]).refused(3, "wrong span");
         assert!(!new.exists());
     }
 }
@@ -106,17 +106,22 @@ fn unfit_sheet() {
     let (file, keys) = (scratch.join("sheet"), scratch.keys(8));
     let sheet = blank_sheet(2, 4);
     let largest = blank_sheet(256, 4);
-    let mut edition_2 = sheet.clone();
-    edition_2[3] = 2;
-    let longer = [&largest[..], b"\0"].concat();
-    for sheet in [
-        b"",
-        &sheet[..7],
-        &sheet[..423],
-        &edition_2,
-        &longer,
-        &[0; 1 << 20],
-    ] {
+    let mut unfit = vec![
+        Vec::new(),
+        sheet[..7].to_vec(),
+        sheet[..15].to_vec(),
+        sheet[..sheet.len() - 1].to_vec(),
+        [&largest[..], b"\0"].concat(),
+        vec![0; 1 << 20],
+    ];
+    // Another edition or an unknown one, and each of the six zero bytes.
+    let header = [(3, 0), (3, 1), (3, 3)].into_iter();
+    for (place, value) in header.chain((10..16).map(|place| (place, 1))) {
+        let mut sheet = sheet.clone();
+        sheet[place] = value;
+        unfit.push(sheet);
+    }
+    for sheet in unfit {
         fs::write(&file, sheet).unwrap();
         refused(
             &words!["write", file, "0", keys],
@@ -243,8 +248,8 @@ fn altered() {
     let scratch = Scratch::new();
     let (file, keys) = (scratch.join("sheet"), scratch.keys(8));
     let sheet = written(&blank_sheet(2, 4), 8, 1, b"Clock");
-    let mark = 8 + 16;
-    let field = 8 + 32 + 192;
+    let mark = EDITION.mark_place(1).start;
+    let field = EDITION.field_place(2, 1).start;
     for place in [mark + 5, mark + 8, mark + 15, field, field + 191] {
         let mut sheet = sheet.clone();
         sheet[place] ^= 2;
@@ -263,8 +268,8 @@ fn altered() {
     );
     let mut moved = blank_sheet(2, 4);
     moved[4..8].copy_from_slice(&sheet[4..8]);
-    moved[8..24].copy_from_slice(&sheet[24..40]);
-    moved[40..232].copy_from_slice(&sheet[232..424]);
+    moved[EDITION.mark_place(0)].copy_from_slice(&sheet[EDITION.mark_place(1)]);
+    moved[EDITION.field_place(2, 0)].copy_from_slice(&sheet[EDITION.field_place(2, 1)]);
     fs::write(&file, &moved).unwrap();
     refused(&words!["read", file, "0", keys], b"", &file, 10, "altered");
 }

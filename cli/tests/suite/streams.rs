@@ -123,7 +123,7 @@ fn a_full_standard_error_keeps_the_exit_status() {
         (&["list"][..], 64),
         (&["list", "/nowhere"], 74),
         (&["clear", "/nowhere", "0"], 74),
-        (&["blank", "/nowhere/sheet", "0", "64"], 3),
+        (&["blank", "/nowhere/sheet", "0", "64", "1"], 3),
         (&["--help"], 74),
     ] {
         let run = shell("exec \"$@\" >/dev/full 2>/dev/full", words, b"");
@@ -250,7 +250,7 @@ fn a_dash_is_standard_input() {
         run(&words).failed(64, "standard input can't be two things at once");
     }
     for words in [
-        words!["blank", "-", "1", "64"].to_vec(),
+        words!["blank", "-", "1", "64", "1"].to_vec(),
         words!["write", "-", "0", keys, "--text", "a"].to_vec(),
         words!["clear", "-", "0"].to_vec(),
         words!["keys", "-", "64"].to_vec(),
@@ -262,6 +262,6 @@ fn a_dash_is_standard_input() {
         command.args(words).current_dir(scratch.path());
         run_command(command, b"")
     };
-    at(&["blank", "./-", "1", "64"]).done();
+    at(&["blank", "./-", "1", "64", "1"]).done();
     at(&["list", "./-"]).printed(b"slots 1 key 64 last 0\n0 blank\n");
 }

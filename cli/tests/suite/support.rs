@@ -1,5 +1,6 @@
 //! Scratch folders, keys, and running the command.
 
+use crate::edition::Edition;
 use std::ffi::{c_int, OsStr};
 use std::fs;
 use std::io::Write;
@@ -111,9 +112,18 @@ pub fn hex(bytes: &[u8]) -> String {
     bytes.iter().map(|byte| format!("{byte:02x}")).collect()
 }
 
+/// The edition of `blank_sheet`, and of `captions blank` with the serial 1.
+pub const EDITION: Edition = Edition::Two(1);
+
 pub fn blank_sheet(slots: usize, key_words: usize) -> Vec<u8> {
-    let mut sheet = vec![0; 8 + 208 * slots];
-    assert_eq!(reference::blank(&mut sheet, slots, key_words).number, 0);
+    blank_sheet_with(slots, key_words, 1)
+}
+
+/// A sheet as a blanking by the second program makes it.
+pub fn blank_sheet_with(slots: usize, key_words: usize, serial: u16) -> Vec<u8> {
+    let mut sheet = vec![0; Edition::BLANKED.sheet_length(slots)];
+    let answer = reference::blank(&mut sheet, slots, key_words, serial);
+    assert_eq!(answer.number, 0);
     sheet
 }
 

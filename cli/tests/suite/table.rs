@@ -383,7 +383,7 @@ fn keys_and_sheets_that_are_refused() {
 #[test]
 fn altered_slots() {
     let mut sheet = written(&three_slots(), 8, 1, b"Clock");
-    sheet[8 + 16 * 3 + 192] ^= 1;
+    sheet[EDITION.field_place(3, 1)][0] ^= 1;
     let place = Place::new(&sheet);
     let run = run(&words!["export", place.file, place.keys]);
     assert_eq!(run.status, 10);

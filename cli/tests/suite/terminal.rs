@@ -162,12 +162,12 @@ fn a_name_does_nothing_to_a_terminal() {
             shown,
         ),
         (
-            words!["blank", missing.join("sheet"), "1", "64"].to_vec(),
+            words!["blank", missing.join("sheet"), "1", "64", "1"].to_vec(),
             74,
             shown,
         ),
         (
-            words!["blank", folder.join("new"), "1", "64", "--wait", "0"].to_vec(),
+            words!["blank", folder.join("new"), "1", "64", "1", "--wait", "0"].to_vec(),
             75,
             "folder\\x1bc",
         ),

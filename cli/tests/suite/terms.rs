@@ -314,8 +314,7 @@ fn the_first_refusal_is_given() {
     let scratch = Scratch::new();
     let Loan { sheet, keys, terms } = Loan::new(&scratch);
     let mut altered = fs::read(&sheet).unwrap();
-    let field_of_slot_1 = 8 + 16 * 3 + 192;
-    altered[field_of_slot_1] ^= 1;
+    altered[EDITION.field_place(3, 1)][0] ^= 1;
     fs::write(&sheet, altered).unwrap();
     let unfit = scratch.join("unfit");
     fs::write(&unfit, "neither kind").unwrap();

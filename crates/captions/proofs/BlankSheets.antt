@@ -1,4 +1,4 @@
--- Blank sheets: a header and zeros are one in any edition, and there are no others; the header of edition 1.
+-- Blank sheets: a header and zeros are one in any edition, and there are no others; the headers of editions 1 and 2.
 use Prim.Native.Nat.{ℕ, zero, suc, _+_, _*_, _≤_, _<_}
 use mathlib.Core.Path.{_≡_, refl, sym, ap, ap₂, _∙_}
 use mathlib.Core.Bool.{true}
@@ -11,17 +11,17 @@ use borrow.Author.Tests.{eqb-true}
 use Rattle.octets.specs.Bytes.{Bytes, be, number, zeros, part, allZero}
 use Rattle.octets.proofs.Bool.{and-left, and-right}
 use Rattle.octets.proofs.EveryByte.{append-bytes}
-use Rattle.octets.proofs.Numbers.{length-be, be-bytes, number-be}
-use Rattle.octets.proofs.Parts.{part-add, part-all, part-append-left, part-append-right, part-append-head, part-append-tail}
+use Rattle.octets.proofs.Numbers.{length-be, be-bytes, number-be, number-part-lt}
+use Rattle.octets.proofs.Parts.{length-part, part-add, part-all, part-append-left, part-append-right, part-append-head, part-append-tail}
 use Rattle.octets.proofs.Zeros.{length-zeros, zeros-bytes, zeros-append, part-zeros, allZero-zeros, allZero-is}
 use Rattle.cipher.specs.Key.{mcryptonClass}
 use Rattle.cipher.proofs.Promise.{class-small, mcrypton-known}
-use Rattle.layout.specs.Layout.{Edition, edition1, rule1, slots, keyClass, editionByte, lastWrite, sheetSize, markAt, fieldAt, slotCount, mark, field, blankSlot, fitSlot, fitIn, blankHeader, blankSlots, blankSheet}
+use Rattle.layout.specs.Layout.{Edition, edition1, edition2, rule1, rule2, slots, keyClass, editionByte, lastWrite, serial, sheetSize, markAt, fieldAt, slotCount, mark, field, blankSlot, fitSlot, fitIn, firstEight, blankSlots, blankSheet1, blankHeader, blankSheet}
 use Rattle.layout.proofs.Header.{count-high}
 use Rattle.layout.proofs.Fits.{Rules, rules-fit, length-mark, length-field}
 use Rattle.captions.specs.Claim.{SameHeader, Regular}
 use Rattle.captions.proofs.Store.{slots-kept, keyClass-kept}
-use Rattle.captions.proofs.Editions.{edition1-regular}
+use Rattle.captions.proofs.Editions.{edition1-regular, edition2-regular}
 use Rattle.captions.proofs.Slot.{be-part}
 
 -- ---- a header and slots of zeros, in any edition
@@ -43,47 +43,67 @@ module _ (hd : List ℕ) (n : ℕ) where
   unfolding blankSlots
   bytes-blank b = append-bytes b (zeros-bytes (208 * n))
 
--- hd is a header of e for n slots
-module _ (e : Edition) (reg : Regular e) (hd : List ℕ) (n : ℕ) (size : length hd ≡ e .header) (is : slots hd ≡ n) where
+-- hd is a header of e for n slots and keys of class t, and its last write number is 0
+record Header (e : Edition) (n t : ℕ) (hd : List ℕ) : Type 0 where
+  size : length hd ≡ e .header
+  bytes : Bytes hd
+  count : slots hd ≡ n
+  class : keyClass hd ≡ t
+  last : lastWrite hd ≡ 0
+  rule : e .rule hd ≡ true
+
+-- what is known of a blank sheet of e with n slots and keys of class t
+pub record Made (e : Edition) (n t : ℕ) (s : List ℕ) : Type 0 where
+  pub bytes : Bytes s
+  pub fits : fitIn e s ≡ true
+  pub count : slots s ≡ n
+  pub class : keyClass s ≡ t
+  pub last : lastWrite s ≡ 0
+
+module _ (e : Edition) (reg : Regular e) (n t : ℕ) (hd : List ℕ) (h : Header e n t hd) where
   eight : 8 ≤ length hd
-  eight = omega (arith, size, reg .header-size)
+  eight = omega (arith, h .size, reg .header-size)
 
   same-header : SameHeader (e .header) (blankSlots hd n) hd
   same-header =
-      record { low = λ a k h. header-part hd n a k (omega (arith, eight)); high = λ a k g h. header-part hd n a k (omega (arith, size)) }
+      record { low = λ a k l. header-part hd n a k (omega (arith, eight)); high = λ a k g l. header-part hd n a k (omega (arith, h .size)) }
 
-  pub made-slots : slots (blankSlots hd n) ≡ n
-  made-slots = slots-kept same-header ∙ is
-
-  pub made-class : keyClass (blankSlots hd n) ≡ keyClass hd
-  made-class = keyClass-kept same-header
-
-  pub made-last : lastWrite (blankSlots hd n) ≡ lastWrite hd
-  unfolding lastWrite
-  made-last = ap number (header-part hd n 4 4 (omega (arith, eight)))
+  made-slots : slots (blankSlots hd n) ≡ n
+  made-slots = slots-kept same-header ∙ h .count
 
   made-blank : (i : ℕ) → i < n → blankSlot e (blankSlots hd n) i ≡ true
   unfolding blankSlot mark field markAt fieldAt
-  made-blank i h =
+  made-blank i l =
       rw (
         made-slots,
-        rest-zero hd n (e .header + 16 * i) (16 * i) 16 (omega (arith, size)) (omega arith),
-        rest-zero hd n (e .header + 16 * n + 192 * i) (16 * n + 192 * i) 192 (omega (arith, size)) (omega arith),
+        rest-zero hd n (e .header + 16 * i) (16 * i) 16 (omega (arith, h .size)) (omega arith),
+        rest-zero hd n (e .header + 16 * n + 192 * i) (16 * n + 192 * i) 192 (omega (arith, h .size)) (omega arith),
         allZero-zeros 16,
         allZero-zeros 192,
       )
 
-  pub made-fit : slotCount n ≡ true → e .rule hd ≡ true → fitIn e (blankSlots hd n) ≡ true
+  made-fit : slotCount n ≡ true → fitIn e (blankSlots hd n) ≡ true
   unfolding sheetSize fitSlot
-  made-fit count rule =
+  made-fit few =
       rules-fit e (blankSlots hd n)
       (record {
         long = omega (arith, length-blank hd n, eight);
-        count = rw made-slots count;
-        rule = reg .rule-kept (blankSlots hd n) hd same-header ∙ rule;
-        size = length-blank hd n ∙ rw (made-slots, size);
-        slot = λ i h. rw (made-blank i (omega (arith, made-slots)));
+        count = rw made-slots few;
+        rule = reg .rule-kept (blankSlots hd n) hd same-header ∙ h .rule;
+        size = length-blank hd n ∙ rw (made-slots, h .size);
+        slot = λ i l. rw (made-blank i (omega (arith, made-slots)));
       })
+
+  made : slotCount n ≡ true → Made e n t (blankSlots hd n)
+  unfolding lastWrite
+  made few =
+      record {
+        bytes = bytes-blank hd n (h .bytes);
+        fits = made-fit few;
+        count = made-slots;
+        class = keyClass-kept same-header ∙ h .class;
+        last = ap number (header-part hd n 4 4 (omega (arith, eight))) ∙ h .last;
+      }
 
 -- parts of k zeros, n times
 zero-parts : (s : List ℕ) (a k n : ℕ) → ((i : ℕ) → i < n → part s (a + k * i) k ≡ zeros k) → part s a (k * n) ≡ zeros (k * n)
@@ -115,69 +135,156 @@ module _ (e : Edition) (s : List ℕ) (r : Rules e s) (blanks : (i : ℕ) → i 
   unfolding blankSlots sheetSize
   blank-is = sym (part-all s (e .header + 208 * slots s) (r .size)) ∙ part-add s 0 (e .header) (208 * slots s) ∙ ap (λ (u : List ℕ). part s 0 (e .header) ++ u) (rw zero-add slots-zero)
 
--- ---- edition 1: its header
+-- ---- bytes 0 to 7 of a header
 
-module _ (n t : ℕ) where
-  header-length : length (blankHeader n t) ≡ 8
-  unfolding blankHeader
-  header-length = simp (length-append, length-be)
+module _ (v n t : ℕ) where
+  eight-length : length (firstEight v n t) ≡ 8
+  unfolding firstEight
+  eight-length = simp (length-append, length-be)
 
-  past-slots : (a k : ℕ) → part (blankHeader n t) (2 + a) k ≡ part (be 1 t ++ (be 1 1 ++ be 4 0)) a k
-  unfolding blankHeader
+  eight-bytes : Bytes (firstEight v n t)
+  unfolding firstEight
+  eight-bytes = append-bytes (be-bytes 2 n) (append-bytes (be-bytes 1 t) (append-bytes (be-bytes 1 v) (be-bytes 4 0)))
+
+  past-slots : (a k : ℕ) → part (firstEight v n t) (2 + a) k ≡ part (be 1 t ++ (be 1 v ++ be 4 0)) a k
+  unfolding firstEight
   past-slots a k = part-append-right (be 2 n) _ (2 + a) a k (omega (arith, length-be 2 n))
 
-  past-class : (a k : ℕ) → part (blankHeader n t) (2 + (1 + a)) k ≡ part (be 1 1 ++ be 4 0) a k
+  past-class : (a k : ℕ) → part (firstEight v n t) (2 + (1 + a)) k ≡ part (be 1 v ++ be 4 0) a k
   past-class a k = past-slots (1 + a) k ∙ part-append-right (be 1 t) _ (1 + a) a k (omega (arith, length-be 1 t))
 
-  header-slots : n ≤ 256 → slots (blankHeader n t) ≡ n
-  unfolding slots blankHeader
-  header-slots h = ap number (part-append-head (be 2 n) _ 2 (length-be 2 n)) ∙ number-be 2 n (omega arith)
+  eight-slots : n ≤ 256 → number (part (firstEight v n t) 0 2) ≡ n
+  unfolding firstEight
+  eight-slots h = ap number (part-append-head (be 2 n) _ 2 (length-be 2 n)) ∙ number-be 2 n (omega arith)
 
-  header-class : t < 256 → keyClass (blankHeader n t) ≡ t
-  unfolding keyClass
-  header-class h = ap number (past-slots 0 1 ∙ part-append-head (be 1 t) _ 1 (length-be 1 t)) ∙ number-be 1 t (omega arith)
+  eight-class : t < 256 → number (part (firstEight v n t) 2 1) ≡ t
+  eight-class h = ap number (past-slots 0 1 ∙ part-append-head (be 1 t) _ 1 (length-be 1 t)) ∙ number-be 1 t (omega arith)
 
-  header-edition : editionByte (blankHeader n t) ≡ 1
-  unfolding editionByte
-  header-edition = ap number (past-class 0 1 ∙ part-append-head (be 1 1) _ 1 (length-be 1 1)) ∙ number-be 1 1 (omega arith)
+  eight-edition : v < 256 → number (part (firstEight v n t) 3 1) ≡ v
+  eight-edition h = ap number (past-class 0 1 ∙ part-append-head (be 1 v) _ 1 (length-be 1 v)) ∙ number-be 1 v (omega arith)
 
-  header-last : lastWrite (blankHeader n t) ≡ 0
-  unfolding lastWrite
-  header-last = ap number (past-class 1 4 ∙ part-append-tail (be 1 1) (be 4 0) 1 4 (length-be 1 1) (length-be 4 0)) ∙ number-be 4 0 (omega arith)
+  eight-last : number (part (firstEight v n t) 4 4) ≡ 0
+  eight-last = ap number (past-class 1 4 ∙ part-append-tail (be 1 v) (be 4 0) 1 4 (length-be 1 v) (length-be 4 0)) ∙ number-be 4 0 (omega arith)
 
-  pub blank-bytes : Bytes (blankSheet n t)
-  unfolding blankSheet blankHeader
-  blank-bytes = bytes-blank (blankHeader n t) n (append-bytes (be-bytes 2 n) (append-bytes (be-bytes 1 t) (append-bytes (be-bytes 1 1) (be-bytes 4 0))))
+-- the bytes of s as numbers
+module _ (s : List ℕ) (b : Bytes s) where
+  field-is : (a n x : ℕ) → a + n ≤ length s → number (part s a n) ≡ x → part s a n ≡ be n x
+  field-is a n x h q = sym (be-part s a n h b) ∙ ap (be n) q
 
-  module _ (most : n ≤ 256) where
-    pub blank-slots : slots (blankSheet n t) ≡ n
-    unfolding blankSheet
-    blank-slots = made-slots edition1 edition1-regular (blankHeader n t) n header-length (header-slots most)
+  eight-is : (v : ℕ) → 8 ≤ length s → editionByte s ≡ v → lastWrite s ≡ 0 → part s 0 8 ≡ firstEight v (slots s) (keyClass s)
+  unfolding firstEight slots keyClass editionByte lastWrite
+  eight-is v l e w =
+      sym (rw (← field-is 0 2 _ (omega arith) refl, ← field-is 2 1 _ (omega arith) refl, ← field-is 3 1 v (omega arith) e, ← field-is 4 4 0 (omega arith) w, ← part-add s 3 1 4, ← part-add s 2 1 5, ← part-add s 0 2 6))
 
-    pub blank-class : t < 256 → keyClass (blankSheet n t) ≡ t
-    unfolding blankSheet
-    blank-class h = made-class edition1 edition1-regular (blankHeader n t) n header-length (header-slots most) ∙ header-class h
+-- ---- edition 1
 
-    pub blank-last : lastWrite (blankSheet n t) ≡ 0
-    unfolding blankSheet
-    blank-last = made-last edition1 edition1-regular (blankHeader n t) n header-length (header-slots most) ∙ header-last
+pub byte-one : (s : List ℕ) → rule1 s ≡ true → editionByte s ≡ 1
+unfolding rule1
+byte-one s h = eqb-true (editionByte s) 1 (and-right (mcryptonClass (keyClass s)) _ h)
 
-  pub blank-fit : slotCount n ≡ true → mcryptonClass t ≡ true → fitIn edition1 (blankSheet n t) ≡ true
-  unfolding blankSheet rule1
-  blank-fit count class =
-      made-fit edition1 edition1-regular (blankHeader n t) n header-length (header-slots (count-high n count)) count
-      (rw (header-class (class-small t (mcrypton-known t class)), header-edition, class))
+module _ (n t : ℕ) (count : slotCount n ≡ true) (class : mcryptonClass t ≡ true) where
+  few : n ≤ 256
+  few = count-high n count
+
+  small : t < 256
+  small = class-small t (mcrypton-known t class)
+
+  header-1 : Header edition1 n t (firstEight 1 n t)
+  unfolding rule1 slots keyClass editionByte lastWrite
+  header-1 =
+      record {
+        size = eight-length 1 n t;
+        bytes = eight-bytes 1 n t;
+        count = eight-slots 1 n t few;
+        class = eight-class 1 n t small;
+        last = eight-last 1 n t;
+        rule = rw (eight-class 1 n t small, eight-edition 1 n t (omega arith), class);
+      }
+
+  pub made-1 : Made edition1 n t (blankSheet1 n t)
+  unfolding blankSheet1
+  made-1 = made edition1 edition1-regular n t (firstEight 1 n t) header-1 count
 
 module _ (s : List ℕ) (b : Bytes s) (r : Rules edition1 s) (unused : lastWrite s ≡ 0) where
-  field-is : (a n x : ℕ) → a + n ≤ 8 → number (part s a n) ≡ x → part s a n ≡ be n x
-  field-is a n x h q = sym (be-part s a n (omega (arith, r .long)) b) ∙ ap (be n) q
+  pub blanked-1 : ((i : ℕ) → i < slots s → blankSlot edition1 s i ≡ true) → s ≡ blankSheet1 (slots s) (keyClass s)
+  unfolding blankSheet1
+  blanked-1 blanks = blank-is edition1 s r blanks ∙ ap (λ (u : List ℕ). blankSlots u (slots s)) (eight-is s b 1 (r .long) (byte-one s (r .rule)) unused)
 
-  header-is : part s 0 8 ≡ blankHeader (slots s) (keyClass s)
-  unfolding blankHeader slots keyClass editionByte lastWrite rule1
-  header-is =
-      let one : number (part s 3 1) ≡ 1 = eqb-true (editionByte s) 1 (and-right (mcryptonClass (keyClass s)) (eqb (editionByte s) 1) (r .rule)) in
-      sym (rw (← field-is 0 2 _ (omega arith) refl, ← field-is 2 1 _ (omega arith) refl, ← field-is 3 1 1 (omega arith) one, ← field-is 4 4 0 (omega arith) unused, ← part-add s 3 1 4, ← part-add s 2 1 5, ← part-add s 0 2 6))
+-- ---- edition 2
 
-  pub blanked : ((i : ℕ) → i < slots s → blankSlot edition1 s i ≡ true) → s ≡ blankSheet (slots s) (keyClass s)
+pub byte-two : (s : List ℕ) → rule2 s ≡ true → editionByte s ≡ 2
+unfolding rule2
+byte-two s h = eqb-true (editionByte s) 2 (and-left (eqb (editionByte s) 2) _ (and-right (mcryptonClass (keyClass s)) _ h))
+
+module _ (n t x : ℕ) where
+  head-length : length (blankHeader n t x) ≡ 16
+  unfolding blankHeader
+  head-length = simp (length-append, length-be, length-zeros, eight-length 2 n t)
+
+  head-bytes : Bytes (blankHeader n t x)
+  unfolding blankHeader
+  head-bytes = append-bytes (eight-bytes 2 n t) (append-bytes (be-bytes 2 x) (zeros-bytes 6))
+
+  head-part : (a k : ℕ) → a + k ≤ 8 → part (blankHeader n t x) a k ≡ part (firstEight 2 n t) a k
+  unfolding blankHeader
+  head-part a k h = part-append-left (firstEight 2 n t) _ a k (omega (arith, eight-length 2 n t))
+
+  past-eight : (a k : ℕ) → part (blankHeader n t x) (8 + a) k ≡ part (be 2 x ++ zeros 6) a k
+  unfolding blankHeader
+  past-eight a k = part-append-right (firstEight 2 n t) _ (8 + a) a k (omega (arith, eight-length 2 n t))
+
+  head-serial : x < 65536 → number (part (blankHeader n t x) 8 2) ≡ x
+  head-serial h = ap number (past-eight 0 2 ∙ part-append-head (be 2 x) (zeros 6) 2 (length-be 2 x)) ∙ number-be 2 x (omega arith)
+
+  head-zeros : allZero (part (blankHeader n t x) 10 6) ≡ true
+  head-zeros = ap allZero (past-eight 2 6 ∙ part-append-tail (be 2 x) (zeros 6) 2 6 (length-be 2 x) (length-zeros 6)) ∙ allZero-zeros 6
+
+  -- the serial of the sheet
+  pub made-serial : x < 65536 → serial (blankSheet n t x) ≡ x
+  unfolding serial blankSheet
+  made-serial h = ap number (header-part (blankHeader n t x) n 8 2 (omega (arith, head-length))) ∙ head-serial h
+
+  module _ (count : slotCount n ≡ true) (class : mcryptonClass t ≡ true) where
+    header-2 : Header edition2 n t (blankHeader n t x)
+    unfolding rule2 slots keyClass editionByte lastWrite
+    header-2 =
+        let is : keyClass (blankHeader n t x) ≡ t = ap number (head-part 2 1 (omega arith)) ∙ eight-class 2 n t (small n t count class) in
+        record {
+          size = head-length;
+          bytes = head-bytes;
+          count = ap number (head-part 0 2 (omega arith)) ∙ eight-slots 2 n t (few n t count class);
+          class = is;
+          last = ap number (head-part 4 4 (omega arith)) ∙ eight-last 2 n t;
+          rule = rw (is, class, head-part 3 1 (omega arith), eight-edition 2 n t (omega arith), head-zeros);
+        }
+
+    pub made-2 : Made edition2 n t (blankSheet n t x)
+    unfolding blankSheet
+    made-2 = made edition2 edition2-regular n t (blankHeader n t x) header-2 count
+
+module _ (s : List ℕ) (b : Bytes s) (r : Rules edition2 s) (unused : lastWrite s ≡ 0) where
+  sixteen : 16 ≤ length s
+  unfolding sheetSize
+  sixteen = omega (arith, r .size)
+
+  pub serial-below : serial s < 65536
+  unfolding serial
+  serial-below = number-part-lt s 8 2 (omega (arith, sixteen)) b
+
+  six-is : part s 10 6 ≡ zeros 6
+  unfolding rule2
+  six-is =
+      allZero-is (part s 10 6) (and-right (eqb (editionByte s) 2) _ (and-right (mcryptonClass (keyClass s)) _ (r .rule)))
+      ∙ ap zeros (length-part s 10 6 (omega (arith, sixteen)))
+
+  head-is : part s 0 16 ≡ blankHeader (slots s) (keyClass s) (serial s)
+  unfolding blankHeader serial
+  head-is =
+      part-add s 0 8 8
+      ∙ ap₂ (λ (u v : List ℕ). u ++ v)
+      (eight-is s b 2 (r .long) (byte-two s (r .rule)) unused)
+      (part-add s 8 2 6 ∙ ap₂ (λ (u v : List ℕ). u ++ v) (field-is s b 8 2 _ (omega (arith, sixteen)) refl) six-is)
+
+  pub blanked-2 : ((i : ℕ) → i < slots s → blankSlot edition2 s i ≡ true) → s ≡ blankSheet (slots s) (keyClass s) (serial s)
   unfolding blankSheet
-  blanked blanks = blank-is edition1 s r blanks ∙ ap (λ (u : List ℕ). blankSlots u (slots s)) header-is
+  blanked-2 blanks = blank-is edition2 s r blanks ∙ ap (λ (u : List ℕ). blankSlots u (slots s)) head-is

@@ -6,7 +6,7 @@ use mathlib.Core.List.{List}
 use native.Mathlib.Omega.{arith}
 use Rattle.octets.specs.Bytes.{number}
 use Rattle.cipher.specs.Key.{classKnown}
-use Rattle.layout.specs.Layout.{edition1, rule1, editionOf, editionByte, keyClass, fit}
+use Rattle.layout.specs.Layout.{edition1, edition2, rule1, rule2, serial, editionOf, editionByte, keyClass, fit}
 use Rattle.layout.proofs.Header.{edition-cases}
 use Rattle.layout.proofs.Fits.{fit-facts, fits-class}
 use Rattle.captions.specs.Claim.{SameHeader, Regular}
@@ -21,12 +21,21 @@ unfolding rule1
 edition1-regular =
     record { header-size = omega arith; rule-kept = λ s s′ h. rw (keyClass-kept h, editionByte-kept h); tail-kept = λ s s′ h. refl }
 
+pub edition2-regular : Regular edition2
+unfolding rule2 serial
+edition2-regular =
+    record {
+      header-size = omega arith;
+      rule-kept = λ s s′ h. rw (keyClass-kept h, editionByte-kept h, h .high 10 6 (omega arith) (omega arith));
+      tail-kept = λ s s′ h. ap number (h .high 8 2 (omega arith) (omega arith));
+    }
+
 pub editions-regular : (s : List ℕ) → Regular (editionOf s)
-editions-regular s = edition-cases Regular s edition1-regular
+editions-regular s = edition-cases Regular s (λ h. edition1-regular) (λ h. edition2-regular)
 
 pub edition-kept : (s s′ : List ℕ) → SameHeader ((editionOf s) .header) s s′ → editionOf s ≡ editionOf s′
 unfolding editionOf
-edition-kept s s′ h = refl
+edition-kept s s′ h = rw (editionByte-kept h)
 
 -- the class of a fit sheet is known
 pub fit-class : (s : List ℕ) → fit s ≡ true → classKnown (keyClass s) ≡ true

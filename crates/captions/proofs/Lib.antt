@@ -11,3 +11,4 @@ pub mod ReadBack
 pub mod WriteBack
 pub mod BlankSheets
 pub mod Refusals
+pub mod Starts

@@ -231,19 +231,19 @@ module _ (s : List ℕ) (i : ℕ) where
   unfolding clearing clearingWith outcome answerNumber
   clear-refused = decided-refused answerNumber (λ (o : Outcome). o .number) _ _ refl (λ a. refl) (λ o. Leaves o s) (λ a. leaves a s) _
 
-module _ (s : List ℕ) (n t : ℕ) where
-  blank-exactly : Exactly ((blanking s n t) .number) (blankClauses s n t)
+module _ (s : List ℕ) (n t x : ℕ) where
+  blank-exactly : Exactly ((blanking s n t x) .number) (blankClauses s n t)
   unfolding blanking outcome answerNumber
   blank-exactly = decided-exactly answerNumber (λ (o : Outcome). o .number) _ _ refl (λ a. refl) _ _ (blank-means s n t)
 
-  blank-refused : ((blanking s n t) .number ≡ 0 → ⊥) → Leaves (blanking s n t) s
+  blank-refused : ((blanking s n t x) .number ≡ 0 → ⊥) → Leaves (blanking s n t x) s
   unfolding blanking outcome answerNumber
   blank-refused = decided-refused answerNumber (λ (o : Outcome). o .number) _ _ refl (λ a. refl) (λ o. Leaves o s) (λ a. leaves a s) _
 
-  blank-accepted : (blanking s n t) .number ≡ 0 → Leaves (blanking s n t) (blankSheet n t)
+  blank-accepted : (blanking s n t x) .number ≡ 0 → Leaves (blanking s n t x) (blankSheet n t x)
   unfolding blanking blankTests outcome answerNumber answerLength Refuses
   blank-accepted =
-      decided-zero answerNumber (λ (o : Outcome). o .number) _ _ refl (λ a. refl) (λ o. Leaves o (blankSheet n t)) (record { len = refl; bytes-are = refl }) _
+      decided-zero answerNumber (λ (o : Outcome). o .number) _ _ refl (λ a. refl) (λ o. Leaves o (blankSheet n t x)) (record { len = refl; bytes-are = refl }) _
       (λ e. omega (arith, e), ((λ e. omega (arith, e)), tt))
 
 -- ---- each number is met: keys of zeros and ones, a sheet of one slot, and the same worn
@@ -291,9 +291,9 @@ every-read =
 every-blank : Each BlankOf (0 ∷ 1 ∷ 3 ∷ [])
 unfolding blanking blankTests decided outcome answerNumber classKnown mcryptonClass slotCount sheetSize zeros
 every-blank =
-    and (record { sheet = zeros 216; count = 1; words = 4; answers = refl })
-    (and (record { sheet = zeros 216; count = 1; words = 5; answers = refl })
-    (and (record { sheet = zeros 215; count = 1; words = 4; answers = refl })
+    and (record { sheet = zeros 224; count = 1; words = 4; serial = 1; answers = refl })
+    (and (record { sheet = zeros 224; count = 1; words = 5; serial = 1; answers = refl })
+    (and (record { sheet = zeros 216; count = 1; words = 4; serial = 1; answers = refl })
     none))
 
 -- ---- the check

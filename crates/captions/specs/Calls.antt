@@ -124,5 +124,6 @@ clearing s i = clearingWith (editionOf s) s i
 unfoldable pub reading : Keys → List ℕ → ℕ → List ℕ → Outcome
 reading k s i window = readingWith (editionOf s) (loadedFor (keyClass s) k) k s i window
 
-unfoldable pub blanking : List ℕ → ℕ → ℕ → Outcome
-blanking s n t = decided (blankTests s n t) (outcome (Accepted 0) (blankSheet n t)) (λ a. outcome a s)
+-- blanking takes the serial x, which no test looks at
+unfoldable pub blanking : List ℕ → ℕ → ℕ → ℕ → Outcome
+blanking s n t x = decided (blankTests s n t) (outcome (Accepted 0) (blankSheet n t x)) (λ a. outcome a s)

@@ -45,7 +45,7 @@ unfoldable pub newMark : ℕ → ℕ → List ℕ → List ℕ
 newMark w len check = numbers w len 0 ++ check
 
 module _ (x : Ciphers) where
-  -- the start block: the sealed form of write number (4 bytes), slot (2), and the edition's last two bytes
+  -- the start block: the sealed form of write number (4 bytes), slot (2), and two bytes that are zero in edition 1 and the serial in edition 2
   unfoldable pub startBlock : ℕ → ℕ → ℕ → List ℕ
   startBlock tail w i = x .E (numbers w i tail)
 

@@ -26,7 +26,7 @@ pub record RightKeys (k : Keys) : Type 0 where
   pub checking : KeyLength (length (k .checking))
   pub alike : length (k .sealing) ≡ length (k .checking)
 
--- n from 1 to 256 and a buffer of the size of a sheet of n slots (else 3)
+-- n from 1 to 256 and a buffer of the size of a new sheet of n slots (else 3)
 pub record BlankSpan (s : List ℕ) (n : ℕ) : Type 0 where
   pub from-1 : 1 ≤ n
   pub to-256 : n ≤ 256
@@ -105,7 +105,8 @@ pub record BlankOf (n : ℕ) : Type 0 where
   pub sheet : List ℕ
   pub count : ℕ
   pub words : ℕ
-  pub answers : (blanking sheet count words) .number ≡ n
+  pub serial : ℕ
+  pub answers : (blanking sheet count words serial) .number ≡ n
 
 -- ---- the statement
 
@@ -114,15 +115,15 @@ pub record SheetRefusals : Type 0 where
   pub write : (k : Keys) (s : List ℕ) (i : ℕ) (c : List ℕ) → Exactly ((writing k s i c) .number) (writeClauses k s i c)
   pub clear : (s : List ℕ) (i : ℕ) → Exactly ((clearing s i) .number) (clearClauses s i)
   pub read : (k : Keys) (s : List ℕ) (i : ℕ) (window : List ℕ) → Exactly ((reading k s i window) .number) (readClauses k s i window)
-  pub blank : (s : List ℕ) (n t : ℕ) → Exactly ((blanking s n t) .number) (blankClauses s n t)
+  pub blank : (s : List ℕ) (n t x : ℕ) → Exactly ((blanking s n t x) .number) (blankClauses s n t)
   -- a refusal changes nothing; a refused read zeroes its window, whatever its length
   pub refused-write : (k : Keys) (s : List ℕ) (i : ℕ) (c : List ℕ) → ((writing k s i c) .number ≡ 0 → ⊥) → Leaves (writing k s i c) s
   pub refused-clear : (s : List ℕ) (i : ℕ) → ((clearing s i) .number ≡ 0 → ⊥) → Leaves (clearing s i) s
   pub refused-read : (k : Keys) (s : List ℕ) (i : ℕ) (window : List ℕ) → ((reading k s i window) .number ≡ 0 → ⊥)
       → Leaves (reading k s i window) (zeros (length window))
-  pub refused-blank : (s : List ℕ) (n t : ℕ) → ((blanking s n t) .number ≡ 0 → ⊥) → Leaves (blanking s n t) s
+  pub refused-blank : (s : List ℕ) (n t x : ℕ) → ((blanking s n t x) .number ≡ 0 → ⊥) → Leaves (blanking s n t x) s
   -- an accepted blanking leaves the blank sheet; what an accepted write, clear and read leave is demand 2
-  pub accepted-blank : (s : List ℕ) (n t : ℕ) → (blanking s n t) .number ≡ 0 → Leaves (blanking s n t) (blankSheet n t)
+  pub accepted-blank : (s : List ℕ) (n t x : ℕ) → (blanking s n t x) .number ≡ 0 → Leaves (blanking s n t x) (blankSheet n t x)
   -- each number can be met; the accepted read stands beside this record, and for 10 there is the law at the end
   pub writes : Each WriteOf (0 ∷ 1 ∷ 2 ∷ 4 ∷ 5 ∷ 6 ∷ 7 ∷ 8 ∷ [])
   pub clears : Each ClearOf (0 ∷ 4 ∷ 6 ∷ [])

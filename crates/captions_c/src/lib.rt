@@ -152,10 +152,15 @@ pub extern "C" fn captions_cmac(key: &[u8], message: &[u8], out: &mut [u8]) -> A
 }
 
 #[no_mangle]
-pub extern "C" fn captions_blank(sheet: &mut [u8], slots: usize, words: usize) -> Answer
-    ensures { λ r. ⌜ sheetCrossed r (now (sheet .exit)) ≡ blanking (now (sheet .entry)) slots words ⌝ }
+pub extern "C" fn captions_blank(
+    sheet: &mut [u8],
+    slots: usize,
+    words: usize,
+    serial: u16,
+) -> Answer
+    ensures { λ r. ⌜ sheetCrossed r (now (sheet .exit)) ≡ blanking (now (sheet .entry)) slots words serial ⌝ }
 {
-    let a = sheet::blank(sheet, slots, words);
+    let a = sheet::blank(sheet, slots, words, serial);
     sheet_answer(a)
 }
 

@@ -7,6 +7,7 @@ use native.Mathlib.Omega.{arith}
 use lib.ListN.{length, getD, replicate, length-replicate, getD-replicate}
 use Rattle.layout.specs.Layout.{slots}
 use Rattle.layout.specs.Rules.{MeetsLayout}
+use Rattle.layout.proofs.Meaning.{meets-few}
 use Rattle.captions.specs.Captions.{Keys}
 use Rattle.captions.specs.Calls.{reading}
 use Rattle.terms.specs.Rules.{MeetsTerms, OnShow}
@@ -53,7 +54,7 @@ module _ (n : ℕ) (f : n ≤ 256) where
 pub opened : (k : Keys) (s : List ℕ) (i day : ℕ) (window : List ℕ) → MeetsLayout s → i < slots s → day ≤ 36524
     → (dating k s (alwaysOpen (slots s)) i day window) .outcome ≡ reading k s i window
 opened k s i day window m l h =
-    let f = m .rules .slots-to-256 in
+    let f = meets-few m in
     let b = beside k s (alwaysOpen (slots s)) i day window in
     b .else-undated
     (not-terms (λ e. b .unfit-terms .0 e .unfit (always-fit (slots s) f)))

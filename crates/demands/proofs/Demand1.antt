@@ -9,7 +9,7 @@ use Rattle.octets.proofs.Zeros.{length-zeros}
 use Rattle.mcrypton.proofs.Refusals.{block-refusals}
 use Rattle.modes.proofs.Refusals.{mac-refusals}
 use Rattle.cipher.specs.Key.{mcryptonClass, classKnown}
-use Rattle.layout.specs.Layout.{slots, slotCount, blankSheet}
+use Rattle.layout.specs.Layout.{edition2, slots, slotCount, blankSheet}
 use Rattle.layout.proofs.Places.{places}
 use Rattle.captions.specs.Answers.{Outcome, answerNumber, outcome}
 use Rattle.captions.specs.Captions.{Keys}
@@ -19,10 +19,10 @@ use Rattle.captions.specs.Model.{Call, writes, newModel, page, modelStep}
 use Rattle.captions.specs.Claim as Claim
 use Rattle.captions.proofs.Refusals.{sheet-refusals}
 use Rattle.demands.specs.Demand1.{Demand1}
-use Rattle.demands.specs.Demand3.{BlankSheet, Serves, sheetStep, SecondHalf}
+use Rattle.demands.specs.Demand3.{BlankSheet, Blanked, two, Serves, sheetStep, SecondHalf}
 use Rattle.demands.proofs.Demand3.{demand3}
 
--- ---- an accepted read: of an empty caption, written to a blank sheet of one slot
+-- ---- an accepted read: of an empty caption, written to a blank sheet of edition 2 with one slot
 
 known : classKnown 4 ≡ true
 unfolding classKnown mcryptonClass
@@ -33,24 +33,24 @@ unfolding slotCount
 count = refl
 
 sheet : List ℕ
-sheet = blankSheet 1 4
+sheet = blankSheet 1 4 1
 
 keys : Keys
 keys = demand3 .premises .pair 4 known
 
-blank : BlankSheet sheet
+made : Blanked edition2 1 4 sheet
 unfolding sheet
-blank = demand3 .premises .made 1 4 count known
+made = two 1 4 1 count known (omega arith)
+
+blank : BlankSheet sheet
+blank = demand3 .premises .made made
 
 one-slot : slots sheet ≡ 1
-unfolding sheet
-one-slot = demand3 .premises .count 1 4 count
+one-slot = demand3 .premises .count made
 
 serves : Serves keys sheet
-unfolding sheet keys
-serves =
-    demand3 .premises .unlike-serves keys sheet blank
-    (rw (demand3 .premises .class 1 4 count known) (demand3 .premises .unlike 4 known))
+unfolding keys
+serves = demand3 .premises .unlike-serves keys sheet blank (rw (demand3 .premises .class made) (demand3 .premises .unlike 4 known))
 
 calls : List Call
 calls = writes 0 [] ∷ []

@@ -43,7 +43,7 @@ module _ (p p′ q : ℕ) (k : Keys) (s : List ℕ) (calls : List Call) (serves 
   sound : Sound (byPaths (keyClass s) p p k)
   sound = paths-sound k s keys class p p (fit-class s (blank .fits)) (serves .sealing) (serves .checking)
 
-  follows : FollowsModel (editionOf s) (byPaths (keyClass s) p p k) k (sheetStep p k) s calls
+  pub follows : FollowsModel (editionOf s) (byPaths (keyClass s) p p k) k (sheetStep p k) s calls
   follows =
       sheets-follow-model (editionOf s) (byPaths (keyClass s) p p k) k (sheetStep p k) s calls (editions-regular s) sound fits (blank .unused) captions
       (same-step p k s)

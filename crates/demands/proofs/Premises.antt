@@ -1,8 +1,9 @@
 -- The premises of demand 3 can be met, and say what they seem to say.
 use Prim.Native.Nat.{ℕ, zero, suc, _<_}
-use mathlib.Core.Path.{_≡_, refl, sym, ap, _∙_}
+use mathlib.Core.Path.{_≡_, refl, sym, ap, _∙_, subst}
 use mathlib.Core.Bool.{true, false, not}
 use mathlib.Core.List.{List}
+use native.Mathlib.Omega.{arith}
 use lib.Dec.{lit<}
 use lib.ListN.{length, replicate, length-replicate}
 use borrow.Author.Tests.{eq-eqb}
@@ -11,9 +12,9 @@ use Rattle.octets.proofs.Bool.{not-both}
 use Rattle.octets.proofs.Compare.{same-eq, same-differ}
 use Rattle.octets.proofs.Zeros.{length-zeros, zeros-bytes}
 use Rattle.cipher.specs.Key.{mcryptonClass, classKnown, keyBytes, sheetKeyLength}
-use Rattle.cipher.proofs.Promise.{class-cases, class-small}
-use Rattle.layout.specs.Layout.{editionOf, edition1, slots, keyClass, slotCount, blankSlot, fit, blankSheet}
-use Rattle.layout.proofs.Header.{count-within, count-high}
+use Rattle.cipher.proofs.Promise.{class-cases}
+use Rattle.layout.specs.Layout.{Edition, edition1, edition2, editionOf, slots, keyClass, serial, blankSlot, fitIn, fit, blankSheet1, blankSheet}
+use Rattle.layout.proofs.Header.{count-within, edition-cases, edition-one, edition-two}
 use Rattle.layout.proofs.Fits.{fit-rules}
 use Rattle.captions.specs.Answers.{firstOf}
 use Rattle.captions.specs.Captions.{Keys}
@@ -23,29 +24,50 @@ use Rattle.captions.proofs.Tables.{Unmet, end, next, unmet-first, unmet-rest, d
 use Rattle.captions.proofs.Fitted.{unused-blank}
 use Rattle.captions.proofs.Editions.{fit-class}
 use Rattle.captions.proofs.Effect.{keys-passed, class-passed}
-use Rattle.captions.proofs.BlankSheets.{blank-bytes, blank-slots, blank-class, blank-last, blank-fit, blanked}
+use Rattle.captions.proofs.BlankSheets.{Made, byte-one, made-1, blanked-1, byte-two, made-2, serial-below, blanked-2}
 use Rattle.demands.specs.Ciphers.{byPaths}
-use Rattle.demands.specs.Demand3.{Serves, BlankSheet, Blanked, UnlikeKeys, Premises}
+use Rattle.demands.specs.Demand3.{Serves, BlankSheet, Blanked, one, two, UnlikeKeys, Premises}
 use Rattle.demands.proofs.Ciphers.{sealing-size, checking-size}
 
-made : (n t : ℕ) → slotCount n ≡ true → classKnown t ≡ true → BlankSheet (blankSheet n t)
-unfolding fit editionOf classKnown
-made n t count class = record { bytes = blank-bytes n t; fits = blank-fit n t count class; unused = blank-last n t (count-high n count) }
+-- ---- the blank sheets of each edition
+
+-- a sheet of an edition, and what is known of it
+known-of : {e : Edition} {n t : ℕ} {s : List ℕ} → Blanked e n t s → Made e n t s
+unfolding classKnown
+known-of (one n t count class) = made-1 n t count class
+known-of (two n t x count class small) = made-2 n t x count class
+
+of-edition : {e : Edition} {n t : ℕ} {s : List ℕ} → Blanked e n t s → editionOf s ≡ e
+unfolding classKnown
+of-edition (one n t count class) =
+    edition-one (blankSheet1 n t)
+    (λ h. absurd (omega (arith, h, byte-one (blankSheet1 n t) ((fit-rules edition1 (blankSheet1 n t) ((made-1 n t count class) .fits)) .rule))))
+of-edition (two n t x count class small) =
+    edition-two (blankSheet n t x) (byte-two (blankSheet n t x) ((fit-rules edition2 (blankSheet n t x) ((made-2 n t x count class) .fits)) .rule))
+
+made : {e : Edition} {n t : ℕ} {s : List ℕ} → Blanked e n t s → BlankSheet s
+unfolding fit
+made b = record { bytes = (known-of b) .bytes; fits = rw (of-edition b) ((known-of b) .fits); unused = (known-of b) .last }
 
 blanks : (s : List ℕ) → BlankSheet s → (i : ℕ) → i < slots s → blankSlot (editionOf s) s i ≡ true
 unfolding fit
 blanks s b = unused-blank (editionOf s) s (fit-rules (editionOf s) s (b .fits)) (b .unused)
 
-only : (s : List ℕ) → BlankSheet s → Blanked s
-unfolding fit editionOf
+only : (s : List ℕ) → BlankSheet s → Blanked (editionOf s) (slots s) (keyClass s) s
+unfolding fit
 only s b =
-    record {
-      n = slots s;
-      t = keyClass s;
-      count = (fit-rules edition1 s (b .fits)) .count;
-      class = fit-class s (b .fits);
-      is = blanked s (b .bytes) (fit-rules edition1 s (b .fits)) (b .unused) (blanks s b);
-    }
+    edition-cases (λ e. fitIn e s ≡ true → ((i : ℕ) → i < slots s → blankSlot e s i ≡ true) → Blanked e (slots s) (keyClass s) s) s
+    (λ g h z.
+    let r = fit-rules edition1 s h in
+    subst (Blanked edition1 (slots s) (keyClass s)) (sym (blanked-1 s (b .bytes) r (b .unused) z)) (one (slots s) (keyClass s) (r .count) known))
+    (λ g h z.
+    let r = fit-rules edition2 s h in
+    subst (Blanked edition2 (slots s) (keyClass s)) (sym (blanked-2 s (b .bytes) r (b .unused) z))
+    (two (slots s) (keyClass s) (serial s) (r .count) known (serial-below s (b .bytes) r (b .unused))))
+    (b .fits) (blanks s b)
+  where
+    known : classKnown (keyClass s) ≡ true
+    known = fit-class s (b .fits)
 
 -- ---- the pairs that serve a blank sheet
 
@@ -130,8 +152,9 @@ premises =
       class-8 = (refl, refl);
       made = made;
       only = only;
-      count = λ n t h. blank-slots n t (count-high n h);
-      class = λ n t h c. blank-class n t (count-high n h) (class-small t c);
+      of-edition = of-edition;
+      count = λ b. (known-of b) .count;
+      class = λ b. (known-of b) .class;
       blanks = blanks;
       unlike-serves = unlike-serves;
       serves-unlike = serves-unlike;

@@ -16,7 +16,7 @@ use Rattle.captions.specs.declared.Answer.the-variants.{Accepted}
 use Rattle.demands.specs.Ciphers.{byPaths, writingBy, readingBy, ClassesByMcrypton, CodeWrites, CodeReads}
 
 -- slot i of s holds write number w and the caption c, sealed and checked with the ciphers x:
--- 24 blocks by CBC of the caption and zeros, from the sealed form of write number, slot and the edition's two bytes (zero in edition 1);
+-- 24 blocks by CBC of the caption and zeros, from the sealed form of write number, slot and two bytes (zero in edition 1, the serial in edition 2);
 -- write number, length, two zero bytes, and CMAC of write number, slot, length and sealed field
 pub record Holds (x : Ciphers) (s : List ℕ) (i w : ℕ) (c : List ℕ) : Type 0 where
   pub field-is : field (editionOf s) s i

@@ -9,7 +9,7 @@ use Rattle.schedule.specs.Schedule.{Key}
 use Rattle.mcrypton.specs.Cipher.{byWords}
 use Rattle.mcrypton.specs.Claims.{FirstHalf}
 use Rattle.cipher.specs.Key.{classKnown, keyBytes}
-use Rattle.layout.specs.Layout.{editionOf, slots, keyClass, lastWrite, slotCount, blankSlot, fit, blankSheet}
+use Rattle.layout.specs.Layout.{Edition, edition1, edition2, editionOf, slots, keyClass, lastWrite, slotCount, blankSlot, fit, blankSheet1, blankSheet}
 use Rattle.captions.specs.Answers.{firstOf}
 use Rattle.captions.specs.Captions.{Keys}
 use Rattle.captions.specs.Calls.{pairTests, clearing}
@@ -52,6 +52,7 @@ pub record Serves (k : Keys) (s : List ℕ) : Type 0 where
 -- a blank sheet: it meets the layout and has w = 0
 pub record BlankSheet (s : List ℕ) : Type 0 where
   pub bytes : Bytes s
+  -- of either edition
   pub fits : fit s ≡ true
   pub unused : lastWrite s ≡ 0
 
@@ -71,13 +72,10 @@ pub record ModelRun : Type 0 where
 
 -- ---- the premises can be met, and say what they seem to say
 
--- n and t of a blank sheet
-pub record Blanked (s : List ℕ) : Type 0 where
-  pub n : ℕ
-  pub t : ℕ
-  pub count : slotCount n ≡ true
-  pub class : classKnown t ≡ true
-  pub is : s ≡ blankSheet n t
+-- the blank sheets of each edition, with n slots and keys of class t; in edition 2 with a serial x, too
+pub data Blanked : Edition → ℕ → ℕ → List ℕ → Type 0 where
+  one : (n t : ℕ) → slotCount n ≡ true → classKnown t ≡ true → Blanked edition1 n t (blankSheet1 n t)
+  two : (n t x : ℕ) → slotCount n ≡ true → classKnown t ≡ true → x < 65536 → Blanked edition2 n t (blankSheet n t x)
 
 -- unlike keys of class t: bytes, as many as the class has, and not equal
 pub record UnlikeKeys (t : ℕ) (k : Keys) : Type 0 where
@@ -93,12 +91,13 @@ pub record Premises : Type 0 where
   pub class-4 : (classKnown 4 ≡ true) × (keyBytes 4 ≡ 8)
   pub class-6 : (classKnown 6 ≡ true) × (keyBytes 6 ≡ 12)
   pub class-8 : (classKnown 8 ≡ true) × (keyBytes 8 ≡ 16)
-  -- a blank sheet is exactly what blanking makes
-  pub made : (n t : ℕ) → slotCount n ≡ true → classKnown t ≡ true → BlankSheet (blankSheet n t)
-  pub only : (s : List ℕ) → BlankSheet s → Blanked s
-  -- it has n slots and keys of class t, and its slots are all blank
-  pub count : (n t : ℕ) → slotCount n ≡ true → slots (blankSheet n t) ≡ n
-  pub class : (n t : ℕ) → slotCount n ≡ true → classKnown t ≡ true → keyClass (blankSheet n t) ≡ t
+  -- a blank sheet is exactly one of these, in each edition
+  pub made : {e : Edition} {n t : ℕ} {s : List ℕ} → Blanked e n t s → BlankSheet s
+  pub only : (s : List ℕ) → BlankSheet s → Blanked (editionOf s) (slots s) (keyClass s) s
+  -- it is a sheet of its edition, with n slots and keys of class t, and its slots are all blank
+  pub of-edition : {e : Edition} {n t : ℕ} {s : List ℕ} → Blanked e n t s → editionOf s ≡ e
+  pub count : {e : Edition} {n t : ℕ} {s : List ℕ} → Blanked e n t s → slots s ≡ n
+  pub class : {e : Edition} {n t : ℕ} {s : List ℕ} → Blanked e n t s → keyClass s ≡ t
   pub blanks : (s : List ℕ) → BlankSheet s → (i : ℕ) → i < slots s → blankSlot (editionOf s) s i ≡ true
   -- the pairs that serve it are exactly the unlike keys of its class
   pub unlike-serves : (k : Keys) (s : List ℕ) → BlankSheet s → UnlikeKeys (keyClass s) k → Serves k s

@@ -4,17 +4,17 @@ use mathlib.Core.Bool.{Bool, true, false, _&&_}
 use mathlib.Core.List.{List}
 use Prim.Native.Nat.{ℕ, _+_, _≤_, _<_}
 use native.Mathlib.Omega.{arith}
-use borrow.Author.Tests.{leb-true, le-leb, lt-leb}
+use borrow.Author.Tests.{eq-eqb, ne-eqb, eqb-true, eqb-false, leb-true, le-leb, lt-leb}
 use lib.Dec.{eqb, leb}
 use lib.ListN.{length, getD}
-use Rattle.octets.specs.Bytes.{Bytes, number, part}
+use Rattle.octets.specs.Bytes.{if_then_else_, Bytes, number, part, allZero}
 use Rattle.octets.proofs.Bool.{and-left, and-right, and-both}
 use Rattle.octets.proofs.Parts.{tab-part}
 use Rattle.octets.proofs.Numbers.{number-part-lt}
 use Rattle.cipher.specs.Key.{mcryptonClass, classKnown}
 use Rattle.cipher.proofs.Promise.{mcrypton-known}
 use Rattle.layout.specs.declared.Shape.{Shape}
-use Rattle.layout.specs.Layout.{Edition, edition1, slots, keyClass, editionByte, lastWrite, editionOf, rule1, slotCount, sheetSize}
+use Rattle.layout.specs.Layout.{Edition, edition1, edition2, slots, keyClass, editionByte, lastWrite, serial, editionOf, rule1, rule2, slotCount, sheetSize}
 use Rattle.layout.specs.Shape.{shapeOf}
 
 -- ---- one byte as a number
@@ -70,29 +70,45 @@ module _ (s : List ℕ) (b : Bytes s) (h : 8 ≤ length s) where
 
 -- ---- the edition
 
--- by cases of the edition: no other law looks into the choice
-pub edition-cases : (P : Edition → Type 0) (s : List ℕ) → P edition1 → P (editionOf s)
+-- by cases of the edition; beside this law only those look into the choice that say that sheets with one byte 3 have one edition
+pub edition-cases : (P : Edition → Type 0) (s : List ℕ) → ((editionByte s ≡ 2 → ⊥) → P edition1) → (editionByte s ≡ 2 → P edition2) → P (editionOf s)
 unfolding editionOf
-edition-cases P s h = h
+edition-cases P s one two = go (eqb (editionByte s) 2) refl
+  where
+    go : (b : Bool) → eqb (editionByte s) 2 ≡ b → P (if b then edition2 else edition1)
+    go true h = two (eqb-true (editionByte s) 2 h)
+    go false h = one (eqb-false (editionByte s) 2 h)
+
+pub edition-two : (s : List ℕ) → editionByte s ≡ 2 → editionOf s ≡ edition2
+edition-two s h = edition-cases (λ e. e ≡ edition2) s (λ g. absurd (g h)) (λ g. refl)
+
+pub edition-one : (s : List ℕ) → (editionByte s ≡ 2 → ⊥) → editionOf s ≡ edition1
+edition-one s h = edition-cases (λ e. e ≡ edition1) s (λ g. refl) (λ g. absurd (h g))
 
 -- a header is small in every edition
 pub header-small : (s : List ℕ) → editionOf s .header ≤ 16
-header-small s = edition-cases (λ e. e .header ≤ 16) s (omega arith)
+header-small s = edition-cases (λ e. e .header ≤ 16) s (λ h. omega arith) (λ h. omega arith)
 
 pub header-holds : (s : List ℕ) → 8 ≤ editionOf s .header
-header-holds s = edition-cases (λ e. 8 ≤ e .header) s (omega arith)
+header-holds s = edition-cases (λ e. 8 ≤ e .header) s (λ h. omega arith) (λ h. omega arith)
 
 pub header-long : (s : List ℕ) → editionOf s .header ≤ length s → 8 ≤ length s
 header-long s h = omega (arith, header-holds s)
 
-pub size-one : (s : List ℕ) → 8 ≡ editionOf s .header
-size-one s = edition-cases (λ e. 8 ≡ e .header) s refl
-
-pub tail-one : (s : List ℕ) → 0 ≡ editionOf s .tail s
-tail-one s = edition-cases (λ e. 0 ≡ e .tail s) s refl
-
 pub rule-class : (s : List ℕ) → editionOf s .rule s ≡ true → classKnown (keyClass s) ≡ true
-rule-class s = edition-cases (λ e. e .rule s ≡ true → classKnown (keyClass s) ≡ true) s (λ h. unfold rule1 in mcrypton-known (keyClass s) (and-left (mcryptonClass (keyClass s)) _ h))
+unfolding rule1 rule2
+rule-class s h =
+    mcrypton-known (keyClass s)
+    (edition-cases (λ e. e .rule s ≡ true → mcryptonClass (keyClass s) ≡ true) s
+    (λ g. and-left (mcryptonClass (keyClass s)) _) (λ g. and-left (mcryptonClass (keyClass s)) _) h)
+
+-- y is what was read of byte 3
+module _ (s : List ℕ) (h : 8 ≤ length s) (y : ℕ) (e : y ≡ getD s 3 0) where
+  pub size-two : y ≡ 2 → 16 ≡ editionOf s .header
+  size-two q = rw (edition-two s (sym (edition-read s y h e) ∙ q))
+
+  pub size-one : (y ≡ 2 → ⊥) → 8 ≡ editionOf s .header
+  size-one q = rw (edition-one s (λ p. q (edition-read s y h e ∙ p)))
 
 module _ (s : List ℕ) (l : editionOf s .header ≤ length s) where
   pub header-byte : 3 < length s
@@ -104,16 +120,43 @@ module _ (s : List ℕ) (l : editionOf s .header ≤ length s) where
   pub slots-bytes : 0 + 2 ≤ length s
   slots-bytes = omega (arith, l, header-holds s)
 
+  -- y is what was read of byte 3
+  module _ (y : ℕ) (e : y ≡ getD s 3 0) where
+    is-two : y ≡ 2 → editionOf s ≡ edition2
+    is-two q = edition-two s (sym (edition-read s y (header-long s l) e) ∙ q)
+
+    is-one : (y ≡ 2 → ⊥) → editionOf s ≡ edition1
+    is-one q = edition-one s (λ p. q (edition-read s y (header-long s l) e ∙ p))
+
+    pub two-long : y ≡ 2 → 16 ≤ length s
+    two-long q = rw (is-two q) at l
+
+    pub two-inside : y ≡ 2 → (a n : ℕ) → a + n ≤ 16 → a + n ≤ length s
+    two-inside q a n h = omega (arith, two-long q)
+
+    pub tail-two : y ≡ 2 → (x : ℕ) → x ≡ number (part s 8 2) → x ≡ editionOf s .tail s
+    tail-two q x f = f ∙ rw (is-two q) (unfold serial in refl)
+
+    pub tail-one : (y ≡ 2 → ⊥) → 0 ≡ editionOf s .tail s
+    tail-one q = rw (is-one q)
+
   -- the edition's rule: x is what was read of byte 2, k what was found of it
   module _ (x : ℕ) (e : x ≡ getD s 2 0) (k : Bool) (f : k ≡ mcryptonClass x) where
     class-found : mcryptonClass (keyClass s) ≡ k
     class-found = rw (← class-read s x (header-long s l) e, f)
 
     pub rule-other : k ≡ false → false ≡ editionOf s .rule s
-    rule-other t = edition-cases (λ d. false ≡ d .rule s) s (unfold rule1 in rw (class-found ∙ t))
+    unfolding rule1 rule2
+    rule-other t = edition-cases (λ (d : Edition). false ≡ d .rule s) s (λ h. rw (class-found ∙ t)) (λ h. rw (class-found ∙ t))
 
-    pub rule-edition : k ≡ true → (y : ℕ) → y ≡ getD s 3 0 → eqb y 1 ≡ editionOf s .rule s
-    rule-edition t y g = edition-cases (λ d. eqb y 1 ≡ d .rule s) s (unfold rule1 in rw (class-found ∙ t, ← edition-read s y (header-long s l) g))
+    module _ (t : k ≡ true) (y : ℕ) (g : y ≡ getD s 3 0) where
+      pub rule-two : y ≡ 2 → (r : Bool) → r ≡ allZero (part s 10 6) → r ≡ editionOf s .rule s
+      unfolding rule2
+      rule-two q r u = u ∙ rw (is-two y g q, class-found ∙ t, ← edition-read s y (header-long s l) g, eq-eqb y 2 q)
+
+      pub rule-one : (y ≡ 2 → ⊥) → eqb y 1 ≡ editionOf s .rule s
+      unfolding rule1
+      rule-one q = rw (is-one y g q, class-found ∙ t, ← edition-read s y (header-long s l) g)
 
 -- ---- the size: n is what was read of bytes 0 and 1, r what was found of it
 

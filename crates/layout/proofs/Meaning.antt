@@ -1,5 +1,5 @@
 -- The tests of the layout mean its rules.
-use Prim.Native.Nat.{ℕ, _<_}
+use Prim.Native.Nat.{ℕ, _≤_, _<_}
 use mathlib.Core.Path.{_≡_, refl, sym, ap, _∙_}
 use mathlib.Core.Bool.{Bool, true, false, _&&_, _||_, false≢true}
 use mathlib.Core.List.{List}
@@ -15,10 +15,10 @@ use Rattle.octets.proofs.Parts.{length-part}
 use Rattle.octets.proofs.Zeros.{allZero-zeros, allZero-is}
 use Rattle.cipher.specs.Key.{mcryptonClass}
 use Rattle.cipher.proofs.Promise.{mcrypton-cases}
-use Rattle.layout.specs.Layout.{Edition, edition1, rule1, editionOf, editionByte, keyClass, slots, lastWrite, sheetSize, mark, field, writtenMark, blankSlot, fitSlot, fit}
-use Rattle.layout.specs.Rules.{Words, four, six, eight, IsBlank, IsWritten, MeetsLayout}
+use Rattle.layout.specs.Layout.{Edition, edition1, edition2, rule1, rule2, editionOf, editionByte, keyClass, slots, lastWrite, sheetSize, mark, field, writtenMark, blankSlot, fitSlot, fitIn, fit}
+use Rattle.layout.specs.Rules.{Words, four, six, eight, IsBlank, IsWritten, Edition1, Edition2, MeetsLayout, one, two}
 use Rattle.layout.specs.Rules as Said
-use Rattle.layout.proofs.Header.{count-low, count-high, count-within}
+use Rattle.layout.proofs.Header.{count-low, count-high, count-within, edition-cases, edition-one, edition-two}
 use Rattle.layout.proofs.Fits.{Rules, fit-rules, rules-fit, mark-written, written-mark, length-mark, length-field}
 
 -- ---- t
@@ -109,25 +109,53 @@ rules-said e s h r =
       slot = λ i l. slot-fits e s i (r .slot i l);
     }
 
--- a sheet is fit exactly if it meets the layout
-pub reflects-fit : (s : List ℕ) → Reflects (fit s) (MeetsLayout s)
-unfolding fit editionOf rule1
-reflects-fit s =
+-- ---- the header's rule of each edition
+
+rule-one : (s : List ℕ) → rule1 s ≡ true → Edition1 s
+unfolding rule1
+rule-one s h =
     record {
-      holds = λ h.
-          let r = fit-rules edition1 s h in
-          record {
-            rules = said-rules edition1 s r;
-            header = record {
-              words = reflects-words (keyClass s) .holds (and-left (mcryptonClass (keyClass s)) (eqb (editionByte s) 1) (r .rule));
-              edition = eqb-true (editionByte s) 1 (and-right (mcryptonClass (keyClass s)) (eqb (editionByte s) 1) (r .rule));
-            };
-          };
-      fails = λ h m.
-          false≢true
-          (sym h
-          ∙ rules-fit edition1 s
-          (rules-said edition1 s
-          (and-both (mcryptonClass (keyClass s)) (eqb (editionByte s) 1) (words-known (m .header .words)) (eq-eqb (editionByte s) 1 (m .header .edition)))
-          (m .rules)));
+      words = reflects-words (keyClass s) .holds (and-left (mcryptonClass (keyClass s)) (eqb (editionByte s) 1) h);
+      edition = eqb-true (editionByte s) 1 (and-right (mcryptonClass (keyClass s)) (eqb (editionByte s) 1) h);
     }
+
+one-rule : (s : List ℕ) → Edition1 s → rule1 s ≡ true
+unfolding rule1
+one-rule s m = and-both (mcryptonClass (keyClass s)) (eqb (editionByte s) 1) (words-known (m .words)) (eq-eqb (editionByte s) 1 (m .edition))
+
+rule-two : (s : List ℕ) → 16 ≤ length s → rule2 s ≡ true → Edition2 s
+unfolding rule2
+rule-two s l h =
+    let rest = and-right (mcryptonClass (keyClass s)) _ h in
+    record {
+      words = reflects-words (keyClass s) .holds (and-left (mcryptonClass (keyClass s)) _ h);
+      edition = eqb-true (editionByte s) 2 (and-left (eqb (editionByte s) 2) _ rest);
+      six-zeros = is-zeros (part s 10 6) 6 (length-part s 10 6 (omega arith)) (and-right (eqb (editionByte s) 2) _ rest);
+    }
+
+two-rule : (s : List ℕ) → Edition2 s → rule2 s ≡ true
+unfolding rule2
+two-rule s m =
+    and-both (mcryptonClass (keyClass s)) _ (words-known (m .words))
+    (and-both (eqb (editionByte s) 2) _ (eq-eqb (editionByte s) 2 (m .edition)) (zeros-all (part s 10 6) 6 (m .six-zeros)))
+
+-- a sheet is fit exactly if it meets the layout
+fit-meets : (s : List ℕ) → fit s ≡ true → MeetsLayout s
+unfolding fit sheetSize
+fit-meets s =
+    edition-cases (λ e. fitIn e s ≡ true → MeetsLayout s) s
+    (λ g h. let r = fit-rules edition1 s h in one (said-rules edition1 s r) (rule-one s (r .rule)))
+    (λ g h. let r = fit-rules edition2 s h in two (said-rules edition2 s r) (rule-two s (omega (arith, r .size)) (r .rule)))
+
+meets-fit : (s : List ℕ) → MeetsLayout s → fit s ≡ true
+unfolding fit
+meets-fit s (one r m) =
+    rw (edition-one s (λ g. absurd (omega (arith, g, m .edition)))) (rules-fit edition1 s (rules-said edition1 s (one-rule s m) r))
+meets-fit s (two r m) = rw (edition-two s (m .edition)) (rules-fit edition2 s (rules-said edition2 s (two-rule s m) r))
+
+pub reflects-fit : (s : List ℕ) → Reflects (fit s) (MeetsLayout s)
+reflects-fit s = record { holds = fit-meets s; fails = λ h m. false≢true (sym h ∙ meets-fit s m) }
+
+pub meets-few : {s : List ℕ} → MeetsLayout s → slots s ≤ 256
+meets-few (one r m) = r .slots-to-256
+meets-few (two r m) = r .slots-to-256

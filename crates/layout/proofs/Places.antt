@@ -1,11 +1,12 @@
 -- The places, by computing.
 use mathlib.Core.Path.{refl}
-use Rattle.octets.specs.Bytes.{number}
-use Rattle.layout.specs.Layout.{slots, keyClass, editionByte, lastWrite, markNumber, markLength, markCheck, markAt, fieldAt, mark, field}
+use Rattle.octets.specs.Bytes.{number, be, zeros}
+use Rattle.layout.specs.Layout.{slots, keyClass, editionByte, lastWrite, serial, markNumber, markLength, markCheck, markAt, fieldAt, mark, field, firstEight, blankHeader}
 use Rattle.layout.specs.Places.{Places}
+use Rattle.layout.proofs.Header.{edition-one, edition-two}
 
 pub places : Places
-unfolding number slots keyClass editionByte lastWrite markNumber markLength markCheck markAt fieldAt mark field
+unfolding number be zeros slots keyClass editionByte lastWrite serial markNumber markLength markCheck markAt fieldAt mark field firstEight blankHeader
 places =
     record {
       header = refl;
@@ -19,4 +20,13 @@ places =
       check = refl;
       marks = λ s i. refl;
       fields = λ s i. refl;
+      header-2 = refl;
+      serial-at = refl;
+      tail-2 = λ s. refl;
+      marks-2 = λ s i. refl;
+      fields-2 = λ s i. refl;
+      chosen-2 = edition-two;
+      chosen-1 = edition-one;
+      new = refl;
+      new-header = refl;
     }

@@ -7,23 +7,24 @@ use native.Mathlib.Omega.{arith}
 use lib.ListN.{length, set, replicate, replicate-append-replicate}
 use Rattle.octets.specs.Bytes.{be, number, zeros, part, put}
 use Rattle.octets.proofs.Numbers.{length-be}
-use Rattle.octets.proofs.Parts.{length-put, part-put-before}
+use Rattle.octets.proofs.Parts.{length-put, part-put-before, part-put-after}
 use Rattle.layout.specs.declared.Shape.{Shape}
-use Rattle.layout.specs.Layout.{newEdition, editionOf, slots, keyClass, sheetSize, markAt, fieldAt, storeSlot, storeLast, blankHeader, blankSlots, blankSheet}
+use Rattle.layout.specs.Layout.{newEdition, editionOf, slots, keyClass, editionByte, serial, sheetSize, markAt, fieldAt, storeSlot, storeLast, firstEight, blankHeader, blankSlots, blankSheet}
 use Rattle.layout.specs.Shape.{shapeOf, SlotIn}
 use Rattle.layout.proofs.Header.{edition-cases, header-holds}
 use Rattle.layout.proofs.Slots.{header-is, slots-are}
 
--- the four stores of the header into zeros
-pub blank-stored : (s l : List ℕ) (n t : ℕ) → l ≡ zeros (length s) → length s ≡ sheetSize (newEdition .header) n → n ≤ 256 → t < 256
-    → set (set (set (set l 0 (n / 256)) 1 (n % 256)) 2 t) 3 1 ≡ blankSheet n t
-unfolding blankSheet blankSlots blankHeader zeros be sheetSize
-blank-stored s l n t e f h g =
-    let k : length s ≡ 8 + 208 * n = f in
-    let z : l ≡ replicate 8 0 ++ replicate (208 * n) 0 = e ∙ rw k (sym (replicate-append-replicate 8 (208 * n) 0)) in
+-- the six stores of the header into zeros
+pub blank-stored : (s l : List ℕ) (n t x : ℕ) → l ≡ zeros (length s) → length s ≡ sheetSize (newEdition .header) n → n ≤ 256 → t < 256 → x < 65536
+    → set (set (set (set (set (set l 0 (n / 256)) 1 (n % 256)) 2 t) 3 2) 8 (x / 256)) 9 (x % 256) ≡ blankSheet n t x
+unfolding blankSheet blankSlots blankHeader firstEight zeros be sheetSize
+blank-stored s l n t x e f h g d =
+    let k : length s ≡ 16 + 208 * n = f in
+    let z : l ≡ replicate 16 0 ++ replicate (208 * n) 0 = e ∙ rw k (sym (replicate-append-replicate 16 (208 * n) 0)) in
     let a : n / 256 % 256 ≡ n / 256 = mod-eq-of-lt (omega arith) in
     let b : t % 256 ≡ t = mod-eq-of-lt g in
-    rw (z, div-one n, div-one t, a, b)
+    let c : x / 256 % 256 ≡ x / 256 = mod-eq-of-lt (omega arith) in
+    rw (z, div-one n, div-one t, div-one x, a, b, c)
 
 -- all bytes of a slot
 pub slot-zeroed : (s t u : List ℕ) (h : Shape) (i a b : ℕ) → SlotIn s h i → b ≡ fieldAt (h .header) (h .slots) i → t ≡ put s b (zeros 192)
@@ -44,13 +45,15 @@ pub length-last : (s : List ℕ) (w : ℕ) → 8 ≤ length s → length (storeL
 unfolding storeLast
 length-last s w h = length-put s (be 4 w) 4 (omega (arith, length-be 4 w))
 
-module _ (s t : List ℕ) (n : part t 0 2 ≡ part s 0 2) (c : part t 2 1 ≡ part s 2 1) (e : part t 3 1 ≡ part s 3 1) where
+module _ (s t : List ℕ) (n : part t 0 2 ≡ part s 0 2) (c : part t 2 1 ≡ part s 2 1) (e : part t 3 1 ≡ part s 3 1)
+    (x : editionOf s .header ≡ 16 → part t 8 2 ≡ part s 8 2) where
   edition-same : editionOf t ≡ editionOf s
-  unfolding editionOf
-  edition-same = refl
+  unfolding editionOf editionByte
+  edition-same = rw e
 
   tail-same : editionOf s .tail t ≡ editionOf s .tail s
-  tail-same = edition-cases (λ d. d .tail t ≡ d .tail s) s refl
+  unfolding serial
+  tail-same = edition-cases (λ d. (d .header ≡ 16 → part t 8 2 ≡ part s 8 2) → d .tail t ≡ d .tail s) s (λ h g. refl) (λ h g. ap number (g refl)) x
 
   shape-same : shapeOf t ≡ shapeOf s
   unfolding shapeOf slots keyClass
@@ -61,6 +64,7 @@ unfolding storeLast
 shape-last s w h =
     let before = part-put-before s (be 4 w) 4 (omega (arith, length-be 4 w)) in
     shape-same s (put s 4 (be 4 w)) (before 0 2 (omega arith)) (before 2 1 (omega arith)) (before 3 1 (omega arith))
+    (λ g. part-put-after s (be 4 w) 4 (omega (arith, length-be 4 w)) 8 2 (omega (arith, length-be 4 w)))
 
 module _ (s xs : List ℕ) (a : ℕ) (fits : a + length xs ≤ length s) where
   pub shape-put : editionOf s .header ≤ a → shapeOf (put s a xs) ≡ shapeOf s
@@ -68,6 +72,7 @@ module _ (s xs : List ℕ) (a : ℕ) (fits : a + length xs ≤ length s) where
       let before = part-put-before s xs a fits in
       let eight = header-holds s in
       shape-same s (put s a xs) (before 0 2 (omega (arith, eight))) (before 2 1 (omega (arith, eight))) (before 3 1 (omega (arith, eight)))
+      (λ g. before 8 2 (omega (arith, g)))
 
   pub slot-put : (h : Shape) (i : ℕ) → h .header ≤ a → SlotIn s h i → SlotIn (put s a xs) h i
   slot-put h i l p =

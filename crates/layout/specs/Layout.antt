@@ -1,10 +1,10 @@
--- The layout of a sheet (document 01, "The sheet"): a header, then n marks of 16 bytes, then n sealed fields of 192 bytes.
+-- The layout of a sheet (document 01, "The sheet", and document 02, request 3): a header, then n marks of 16 bytes, then n sealed fields of 192 bytes.
 use Prim.Native.Nat.{ℕ, _+_, _*_}
 use mathlib.Core.Bool.{Bool, _&&_, _||_}
 use mathlib.Core.List.{List, _++_}
 use lib.Dec.{eqb, leb}
 use lib.ListN.{length}
-use Rattle.octets.specs.Bytes.{be, number, zeros, part, put, allZero, allBelow}
+use Rattle.octets.specs.Bytes.{if_then_else_, be, number, zeros, part, put, allZero, allBelow}
 use Rattle.cipher.specs.Key.{mcryptonClass}
 
 -- ---- the header's fields
@@ -25,11 +25,15 @@ editionByte s = number (part s 3 1)
 unfoldable pub lastWrite : List ℕ → ℕ
 lastWrite s = number (part s 4 4)
 
+-- bytes 8 and 9 from edition 2 on: the serial, chosen at blanking
+unfoldable pub serial : List ℕ → ℕ
+serial s = number (part s 8 2)
+
 -- what an edition settles
 pub record Edition : Type 0 where
   -- the size of its header
   pub header : ℕ
-  -- its rule on the header bytes past n that a write keeps
+  -- its rule on the header's bytes other than n and w
   pub rule : List ℕ → Bool
   -- the last two bytes, as a number, of the block that is encrypted to make a start block
   pub tail : List ℕ → ℕ
@@ -41,13 +45,21 @@ rule1 s = mcryptonClass (keyClass s) && eqb (editionByte s) 1
 abbrev pub edition1 : Edition
 edition1 = record { header = 8; rule = rule1; tail = λ s. 0 }
 
--- the edition of a sheet; a sheet of none breaks the rule of the one that it is held to
+-- t is 4, 6 or 8, the edition 2, and six zero bytes come after the serial
+unfoldable pub rule2 : List ℕ → Bool
+rule2 s = mcryptonClass (keyClass s) && (eqb (editionByte s) 2 && allZero (part s 10 6))
+
+-- the serial stands where edition 1 has two zero bytes in the block that is encrypted to make a start block
+abbrev pub edition2 : Edition
+edition2 = record { header = 16; rule = rule2; tail = serial }
+
+-- the edition of a sheet: 2 in byte 3 is edition 2, and any other value is held to edition 1's rule, which 1 alone passes
 unfoldable pub editionOf : List ℕ → Edition
-editionOf s = edition1
+editionOf s = if eqb (editionByte s) 2 then edition2 else edition1
 
 -- the edition that blanking makes
 abbrev pub newEdition : Edition
-newEdition = edition1
+newEdition = edition2
 
 -- ---- marks and fields
 
@@ -115,13 +127,23 @@ fit s = fitIn (editionOf s) s
 unfoldable pub storeLast : List ℕ → ℕ → List ℕ
 storeLast s w = put s 4 (be 4 w)
 
--- blanking stores n, t, edition 1, w = 0 and zeros
-unfoldable pub blankHeader : ℕ → ℕ → List ℕ
-blankHeader n t = be 2 n ++ (be 1 t ++ (be 1 1 ++ be 4 0))
+-- ---- blank sheets
+
+-- bytes 0 to 7 of a header: n, t, the edition v and w = 0
+unfoldable pub firstEight : ℕ → ℕ → ℕ → List ℕ
+firstEight v n t = be 2 n ++ (be 1 t ++ (be 1 v ++ be 4 0))
 
 -- a header, and n slots of zeros
 unfoldable pub blankSlots : List ℕ → ℕ → List ℕ
 blankSlots header n = header ++ zeros (208 * n)
 
-unfoldable pub blankSheet : ℕ → ℕ → List ℕ
-blankSheet n t = blankSlots (blankHeader n t) n
+-- a blank sheet of edition 1
+unfoldable pub blankSheet1 : ℕ → ℕ → List ℕ
+blankSheet1 n t = blankSlots (firstEight 1 n t) n
+
+-- blanking stores n, t, edition 2, w = 0, the serial x and zeros
+unfoldable pub blankHeader : ℕ → ℕ → ℕ → List ℕ
+blankHeader n t x = firstEight 2 n t ++ (be 2 x ++ zeros 6)
+
+unfoldable pub blankSheet : ℕ → ℕ → ℕ → List ℕ
+blankSheet n t x = blankSlots (blankHeader n t x) n

@@ -1,11 +1,11 @@
--- The layout of a sheet rule by rule, in document 01's words: the plain meaning of `fit`.
+-- The layout of a sheet rule by rule, in the words of document 01 and of document 02, request 3: the plain meaning of `fit`.
 use Prim.Native.Nat.{ℕ, _+_, _*_, _≤_, _<_}
 use mathlib.Core.Path.{_≡_}
 use mathlib.Core.List.{List}
 use mathlib.Core.Logic.{_⊎_}
 use lib.ListN.{length}
 use Rattle.octets.specs.Bytes.{zeros, part}
-use Rattle.layout.specs.Layout.{Edition, edition1, slots, keyClass, editionByte, lastWrite, markNumber, markLength, mark, field}
+use Rattle.layout.specs.Layout.{Edition, edition1, edition2, slots, keyClass, editionByte, lastWrite, markNumber, markLength, mark, field}
 
 -- t: 4, 6 or 8
 pub data Words : ℕ → Type 0 where
@@ -40,6 +40,13 @@ pub record Edition1 (s : List ℕ) : Type 0 where
   pub words : Words (keyClass s)
   pub edition : editionByte s ≡ 1
 
-pub record MeetsLayout (s : List ℕ) : Type 0 where
-  pub rules : Rules edition1 s
-  pub header : Edition1 s
+-- what edition 2 adds: after w come a serial, which has no rule, and six zero bytes
+pub record Edition2 (s : List ℕ) : Type 0 where
+  pub words : Words (keyClass s)
+  pub edition : editionByte s ≡ 2
+  pub six-zeros : part s 10 6 ≡ zeros 6
+
+-- a sheet meets the layout of one edition or of the other
+pub data MeetsLayout (s : List ℕ) : Type 0 where
+  one : Rules edition1 s → Edition1 s → MeetsLayout s
+  two : Rules edition2 s → Edition2 s → MeetsLayout s

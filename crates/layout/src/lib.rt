@@ -19,6 +19,9 @@ pub struct Shape {
 // The size of the header of edition 1.
 const HEADER_1: usize = 8;
 
+// The size of the header of edition 2.
+const HEADER_2: usize = 16;
+
 pub fn slot_count(n: usize) -> bool
     ensures { λ r. ⌜ r ≡ slotCount n ⌝ }
 {
@@ -40,14 +43,20 @@ fn header_size(s: &[u8]) -> usize
     requires { ⌜ 8 ≤ length (now s) ⌝ }
     ensures { λ r. ⌜ r ≡ editionOf (now (s .entry)) .header ⌝ }
 {
+    if octets::byte(s, 3) == 2 {
+        return HEADER_2;
+    }
     HEADER_1
 }
 
-// The last two bytes of the block that is encrypted to make a start block.
+// The last two bytes of the block that is encrypted to make a start block: the serial, or zero in edition 1.
 fn start_tail(s: &[u8]) -> usize
     requires { ⌜ editionOf (now s) .header ≤ length (now s) ⌝ }
     ensures { λ r. ⌜ r ≡ editionOf (now (s .entry)) .tail (now (s .entry)) ⌝ }
 {
+    if octets::byte(s, 3) == 2 {
+        return octets::number2(s, 8);
+    }
     0
 }
 
@@ -71,7 +80,11 @@ fn header_rule(s: &[u8]) -> bool
     if !cipher::mcrypton_class(octets::byte(s, 2)) {
         return false;
     }
-    octets::byte(s, 3) == 1
+    let edition = octets::byte(s, 3);
+    if edition == 2 {
+        return octets::all_zero(&s[10..16]);
+    }
+    edition == 1
 }
 
 // Whether the sheet has the size that its header says.
@@ -201,20 +214,22 @@ pub fn blank_size(n: usize) -> usize
     requires { ⌜ n ≤ 256 ⌝ }
     ensures { λ r. ⌜ r ≡ sheetSize (newEdition .header) n ⌝ }
 {
-    sheet_size(HEADER_1, n)
+    sheet_size(HEADER_2, n)
 }
 
-// A blank sheet of n slots and keys of class t.
-pub fn put_blank(sheet: &mut [u8], n: usize, t: usize)
+// A blank sheet of edition 2 with n slots, keys of class t and a serial.
+pub fn put_blank(sheet: &mut [u8], n: usize, t: usize, serial: u16)
     requires { ⌜ length (now sheet) ≡ sheetSize (newEdition .header) n ⌝ }
     requires { ⌜ (n ≤ 256) × (t < 256) ⌝ }
-    ensures { λ _. ⌜ now (sheet .exit) ≡ blankSheet n t ⌝ }
+    ensures { λ _. ⌜ now (sheet .exit) ≡ blankSheet n t serial ⌝ }
 {
     octets::fill_zero(sheet);
     sheet[0] = (n / 256) as u8;
     sheet[1] = (n % 256) as u8;
     sheet[2] = t as u8;
-    sheet[3] = 1;
+    sheet[3] = 2;
+    sheet[8] = (serial / 256) as u8;
+    sheet[9] = (serial % 256) as u8;
 }
 
 // All 208 bytes of slot i become zero.

@@ -58,7 +58,7 @@ module _ (s : List ℕ) (b : Bytes s) where
 
   length-chosen : (t : Bool) → listable s ≡ t → length (listing s) ≤ 10553
   unfolding listing listable line
-  length-chosen true e = rw e (length-lines (fit-facts s (and-right (leb (length s) 53256) (fit s) e)))
+  length-chosen true e = rw e (length-lines (fit-facts s (and-right (leb (length s) 53264) (fit s) e)))
   length-chosen false e = rw e (omega arith)
 
   pub length-listing : length (listing s) ≤ 10553

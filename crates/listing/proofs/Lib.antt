@@ -4,3 +4,4 @@ pub mod Lines
 pub mod Whole
 pub mod Lengths
 pub mod Example
+pub mod Limit

@@ -25,13 +25,13 @@ use Rattle.listing.proofs.Text.{append-wider, append-then}
 -- ---- whether a sheet is listed
 
 module _ (s : List ℕ) where
-  pub listable-long : 53256 < length s → false ≡ listable s
+  pub listable-long : 53264 < length s → false ≡ listable s
   unfolding listable
-  listable-long h = rw (lt-leb (length s) 53256 h)
+  listable-long h = rw (lt-leb (length s) 53264 h)
 
-  pub listable-fit : length s ≤ 53256 → (r : Bool) → r ≡ fit s → r ≡ listable s
+  pub listable-fit : length s ≤ 53264 → (r : Bool) → r ≡ fit s → r ≡ listable s
   unfolding listable
-  listable-fit h r e = rw (le-leb (length s) 53256 h) e
+  listable-fit h r e = rw (le-leb (length s) 53264 h) e
 
   -- r is what was found of it
   module _ (r : Bool) (e : r ≡ listable s) where
@@ -42,7 +42,7 @@ module _ (s : List ℕ) where
     module _ (t : r ≡ true) where
       listable-fits : Fits s
       unfolding listable
-      listable-fits = fit-facts s (and-right (leb (length s) 53256) (fit s) (sym e ∙ t))
+      listable-fits = fit-facts s (and-right (leb (length s) 53264) (fit s) (sym e ∙ t))
 
       pub sheet-long : 8 ≤ length s
       sheet-long = listable-fits .long

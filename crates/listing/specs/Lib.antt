@@ -1,3 +1,4 @@
 pub mod Ascii
 pub mod Listing
 pub mod Appended
+pub mod Limit

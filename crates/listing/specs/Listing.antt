@@ -64,9 +64,9 @@ slotLines s (suc n) = slotLines s n ++ slotLine s n
 unfoldable pub keyBits : List ℕ → ℕ
 keyBits s = 8 * keyBytes (keyClass s)
 
--- not "an unfit sheet, or one above 53256 bytes"
+-- a fit sheet of at most 53264 bytes, which 256 slots of edition 2 have; every other prints "unfit"
 unfoldable pub listable : List ℕ → Bool
-listable s = leb (length s) 53256 && fit s
+listable s = leb (length s) 53264 && fit s
 
 unfoldable pub listing : List ℕ → List ℕ
 listing s =

@@ -104,11 +104,11 @@ fn put_slots(text: &mut [u8], at: usize, sheet: &[u8], h: Shape) -> usize
     next
 }
 
-// Whether a sheet is fit, and not above 53256 bytes.
+// Whether a sheet is fit, and not above 53264 bytes.
 fn can_list(sheet: &[u8]) -> bool
     ensures { λ r. ⌜ r ≡ listable (now (sheet .entry)) ⌝ }
 {
-    if 53256 < sheet.len() {
+    if 53264 < sheet.len() {
         return false;
     }
     layout::fit_sheet(sheet)

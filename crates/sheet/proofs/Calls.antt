@@ -32,9 +32,9 @@ use Rattle.slots.specs.Inner.{slotShown, Written}
 -- ---- blanking
 
 module _ (s : List ℕ) (n t : ℕ) (v : Verdict) (e : v ≡ firstOf (blankTests s n t)) where
-  pub blank-refused : (a : Answer) → v ≡ Refuse a → outcome a s ≡ blanking s n t
+  pub blank-refused : (x : ℕ) (a : Answer) → v ≡ Refuse a → outcome a s ≡ blanking s n t x
   unfolding blanking
-  blank-refused a h = refused (blankTests s n t) _ (λ a. outcome a s) v a e h
+  blank-refused x a h = refused (blankTests s n t) _ (λ a. outcome a s) v a e h
 
   module _ (h : v ≡ Pass) where
     unmet : Unmet (blankTests s n t)
@@ -54,9 +54,9 @@ module _ (s : List ℕ) (n t : ℕ) (v : Verdict) (e : v ≡ firstOf (blankTests
     unfolding blankTests
     blank-class = class-small t (not-false _ (unmet-first unmet))
 
-    pub blank-made : (s′ : List ℕ) → s′ ≡ blankSheet n t → outcome (Accepted 0) s′ ≡ blanking s n t
+    pub blank-made : (x : ℕ) (s′ : List ℕ) → s′ ≡ blankSheet n t x → outcome (Accepted 0) s′ ≡ blanking s n t x
     unfolding blanking
-    blank-made s′ g = ap (outcome (Accepted 0)) g ∙ accepted (blankTests s n t) _ (λ a. outcome a s) v e h
+    blank-made x s′ g = ap (outcome (Accepted 0)) g ∙ accepted (blankTests s n t) _ (λ a. outcome a s) v e h
 
 -- ---- clearing
 

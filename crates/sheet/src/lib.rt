@@ -6,15 +6,15 @@ ghost use Rattle.captions.specs.Answers.{outcome};
 ghost use Rattle.captions.specs.Captions.{pair};
 ghost use Rattle.captions.specs.Calls.{writing, clearing, reading, blanking};
 
-// Stores a blank sheet of n slots: n, t, the edition, w = 0 and zeros.
-pub fn blank(sheet: &mut [u8], n: usize, t: usize) -> Answer
-    ensures { λ r. ⌜ outcome r (now (sheet .exit)) ≡ blanking (now (sheet .entry)) n t ⌝ }
+// Stores a blank sheet of n slots: n, t, the edition, w = 0, the serial and zeros.
+pub fn blank(sheet: &mut [u8], n: usize, t: usize, serial: u16) -> Answer
+    ensures { λ r. ⌜ outcome r (now (sheet .exit)) ≡ blanking (now (sheet .entry)) n t serial ⌝ }
 {
     let blanking = verdicts::blank_verdict(sheet, n, t);
     if let Verdict::Refuse(a) = blanking {
         return a;
     }
-    layout::put_blank(sheet, n, t);
+    layout::put_blank(sheet, n, t, serial);
     Answer::Accepted(0)
 }
 

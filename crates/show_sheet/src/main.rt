@@ -1,4 +1,4 @@
-// Prints calls on a sheet of 3 slots, what each slot reads as, and the listing: what the second program prints as `vectors sheet`.
+// Prints calls on sheets of 3 slots, what each slot reads as, and the listings: what the second program prints as `vectors sheet`.
 use captions::Answer;
 ghost use Prim.Native.Nat.{_≤_, _<_};
 ghost use lib.ListN.{length};
@@ -76,8 +76,12 @@ fn write_overlong(sealing: &[u8], checking: &[u8], sheet: &mut [u8]) {
     write_pattern(sealing, checking, sheet, 2, &mut caption, 31, 5);
 }
 
-fn blank(checking: &[u8], sheet: &mut [u8]) {
-    let a = sheet::blank(sheet, 3, checking.len() / 2);
+// The serial is 23040 + t.
+fn blank(checking: &[u8], sheet: &mut [u8])
+    requires { ⌜ length (now checking) ≤ 16 ⌝ }
+{
+    let t = checking.len() / 2;
+    let a = sheet::blank(sheet, 3, t, (23040 + t) as u16);
     line(b"blank ", a, checking, sheet);
 }
 
@@ -105,7 +109,6 @@ fn alike_writes(sealing: &[u8], near: &[u8], checking: &[u8], sheet: &mut [u8]) 
 }
 
 fn calls(sealing: &[u8], near: &[u8], checking: &[u8], sheet: &mut [u8]) {
-    blank(checking, sheet);
     accepted_writes(sealing, checking, sheet);
     clear(checking, sheet, 0);
     read(sealing, checking, sheet, 0);
@@ -138,24 +141,45 @@ fn list(sheet: &[u8]) {
     show::text(&text[..n]);
 }
 
-// The calls, reads and listing of a sheet.
-fn lines(sealing: &[u8], near: &[u8], checking: &[u8]) {
+// The calls, reads and listing of a blank sheet.
+fn lines(sealing: &[u8], near: &[u8], checking: &[u8], sheet: &mut [u8]) {
+    calls(sealing, near, checking, sheet);
+    reads(sealing, checking, sheet);
+    list(sheet);
+}
+
+// A sheet of edition 2, made by blanking.
+fn new_sheet(sealing: &[u8], near: &[u8], checking: &[u8])
+    requires { ⌜ length (now checking) ≤ 16 ⌝ }
+{
+    let mut sheet = [0u8; 640];
+    blank(checking, &mut sheet);
+    lines(sealing, near, checking, &mut sheet);
+}
+
+// A sheet of edition 1, which is laid out here.
+fn old_sheet(sealing: &[u8], near: &[u8], checking: &[u8])
+    requires { ⌜ length (now checking) ≤ 16 ⌝ }
+{
     let mut sheet = [0u8; 632];
-    calls(sealing, near, checking, &mut sheet);
-    reads(sealing, checking, &sheet);
-    list(&sheet);
+    sheet[1] = 3;
+    sheet[2] = (checking.len() / 2) as u8;
+    sheet[3] = 1;
+    line(b"old ", Answer::Accepted(0), checking, &sheet);
+    lines(sealing, near, checking, &mut sheet);
 }
 
 // The lines under keys of as many bytes as these have; near becomes the sealing key but for one bit.
 fn lines_of(sealing: &mut [u8], near: &mut [u8], checking: &mut [u8])
-    requires { ⌜ (length (now sealing) ≤ 16) × (0 < length (now near)) ⌝ }
+    requires { ⌜ (length (now sealing) ≤ 16) × (0 < length (now near)) × (length (now checking) ≤ 16) ⌝ }
 {
     let t = sealing.len() / 2;
     show::pattern(sealing, 29, 71 * t + 13);
     show::pattern(near, 29, 71 * t + 13);
     near[0] = near[0] ^ 1;
     show::pattern(checking, 29, 71 * (t + 1) + 13);
-    lines(sealing, near, checking);
+    new_sheet(sealing, near, checking);
+    old_sheet(sealing, near, checking);
 }
 
 fn main() {

@@ -1,5 +1,5 @@
 //! Lists of writes and clears against the book, with reads at the end
-//! (document 01, "The book of demand 3").
+//! (document 01, "The book of demand 3"; document 02, request 3).
 
 use crate::edition::Edition;
 use crate::random::Random;
@@ -49,6 +49,10 @@ fn run(
         assert!(reference::fit(&sheet));
     }
     assert_eq!(w_of(&sheet), book.count);
+    let mut header = edition.blank_sheet(n, t);
+    header.truncate(edition.header());
+    set_w(&mut header, book.count);
+    assert_eq!(sheet[..edition.header()], header);
     for slot in 0..n {
         assert_eq!(Some(read(&keys, &sheet, slot)), book.reading(slot));
     }
@@ -63,6 +67,20 @@ fn random_lists_on_small_sheets() {
             let calls = random.below(40);
             let sheet = edition.blank_sheet(n, t);
             run(&mut random, (edition, t), calls, sheet, Book::new(n));
+        }
+    }
+}
+
+#[test]
+fn random_lists_with_every_serial() {
+    let mut random = Random::new(94);
+    for serial in Edition::SERIALS {
+        for t in CLASSES {
+            let kind = (Edition::Two(serial), t);
+            for _ in 0..5 {
+                let sheet = kind.0.blank_sheet(3, t);
+                run(&mut random, kind, 20, sheet, Book::new(3));
+            }
         }
     }
 }

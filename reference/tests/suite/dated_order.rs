@@ -3,7 +3,7 @@
 
 use crate::edition::Edition;
 use crate::random::Random;
-use crate::refusals::{call_for, Call};
+use crate::refusals::{call_for, Call, WAYS};
 use crate::support::*;
 use crate::term_sheet::*;
 use reference::Answer;
@@ -133,7 +133,7 @@ fn a_dated_read_gives_the_first_refusal_of_every_set_and_zeroes_its_window() {
     let kinds: Vec<(Edition, usize)> = kinds().collect();
     let mut met = [0; 13];
     for set in Set::all() {
-        for way in 0..6 {
+        for way in 0..WAYS {
             let kind = kinds[(way + usize::from(set.0)) % kinds.len()];
             let call = call_for(&set.undated(), kind, way, &mut random);
             let (terms, day) = set.terms_and_day(way, &mut random);
@@ -152,7 +152,7 @@ fn a_dated_read_gives_the_first_refusal_of_every_set_and_zeroes_its_window() {
     // A read never meets 7 and 8.
     let numbers: Vec<usize> = (0..13).filter(|number| met[*number] > 0).collect();
     assert_eq!(numbers, [0, 1, 2, 3, 4, 5, 6, 9, 10, 11, 12]);
-    assert_eq!(met.iter().sum::<usize>(), 6 * 1536);
+    assert_eq!(met.iter().sum::<usize>(), WAYS * 1536);
 }
 
 /// A sheet of up to 4 slots, blank, written and altered ones in any mix.
@@ -248,12 +248,13 @@ fn a_dated_read_keeps_to_the_undated_one() {
 fn any_bytes_and_any_numbers_are_answered() {
     let mut random = Random::new(112);
     for edition in Edition::ALL {
+        let one_slot = edition.blank_sheet(1, 4);
         for length in 0..1500 {
             let lengths = [8, 12, 16, random.below(20)];
             let key = random.pick(&lengths);
             let sheet = match random.below(3) {
                 0 => random.bytes(length),
-                1 => edition.blank_sheet(1, 4)[..length.min(216)].to_vec(),
+                1 => one_slot[..length.min(one_slot.len())].to_vec(),
                 _ => edition.blank_sheet(1 + length % 4, key / 2),
             };
             let call = Call {

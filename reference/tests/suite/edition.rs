@@ -6,21 +6,28 @@ use std::ops::Range;
 const MARK: usize = 16;
 const FIELD: usize = 192;
 
+/// Edition 2 with its serial.
 #[derive(Clone, Copy, Debug, PartialEq, Eq)]
 pub enum Edition {
     One,
+    Two(u16),
 }
 
 impl Edition {
-    pub const ALL: [Edition; 1] = [Edition::One];
+    pub const ALL: [Edition; 2] = [Edition::One, Edition::Two(0xa53c)];
 
     /// The one that blanking makes.
-    pub const BLANKED: Edition = Edition::One;
+    pub const BLANKED: Edition = Edition::Two(0xa53c);
+
+    /// Serials about every edge, for tests that go through serials.
+    #[allow(dead_code)]
+    pub const SERIALS: [u16; 5] = [0, 1, 255, 256, 65535];
 
     /// Byte 3.
     pub const fn number(self) -> u8 {
         match self {
             Edition::One => 1,
+            Edition::Two(_) => 2,
         }
     }
 
@@ -28,6 +35,16 @@ impl Edition {
     pub fn header(self) -> usize {
         match self {
             Edition::One => 8,
+            Edition::Two(_) => 16,
+        }
+    }
+
+    /// The last two bytes of the block that is sealed to make a start block.
+    #[allow(dead_code)]
+    pub fn start_tail(self) -> [u8; 2] {
+        match self {
+            Edition::One => [0, 0],
+            Edition::Two(serial) => [(serial / 256) as u8, (serial % 256) as u8],
         }
     }
 
@@ -54,6 +71,9 @@ impl Edition {
         sheet[0..2].copy_from_slice(&(n as u16).to_be_bytes());
         sheet[2] = t as u8;
         sheet[3] = self.number();
+        if let Edition::Two(serial) = self {
+            sheet[8..10].copy_from_slice(&serial.to_be_bytes());
+        }
         sheet
     }
 }

@@ -1,4 +1,5 @@
-//! The layout test (document 01, "The sheet", and refusal 4).
+//! The layout test (document 01, "The sheet", and refusal 4; document 02,
+//! request 3).
 
 use crate::edition::Edition;
 use crate::random::Random;
@@ -6,7 +7,7 @@ use crate::support::*;
 use reference::fit;
 
 /// The layout once more, read straight off the table.
-fn meets_the_layout(sheet: &[u8]) -> bool {
+pub fn meets_the_layout(sheet: &[u8]) -> bool {
     if sheet.len() < 8 {
         return false;
     }
@@ -25,7 +26,7 @@ fn meets_the_layout(sheet: &[u8]) -> bool {
     if n == 0 || n > 256 || sheet.len() != edition.sheet_length(n) {
         return false;
     }
-    if ![4, 6, 8].contains(&t) {
+    if ![4, 6, 8].contains(&t) || number == 2 && be(10, 6) != 0 {
         return false;
     }
     for slot in 0..n {
@@ -100,12 +101,18 @@ fn a_length_that_is_not_that_of_n_is_unfit() {
 }
 
 #[test]
-fn shorter_than_8_bytes_is_unfit() {
+fn lengths_about_every_edge() {
+    let whole = [(1, 1, 216), (2, 1, 224), (1, 256, 53256), (2, 256, 53264)];
+    let edges = [1, 8, 15, 16, 216, 224, 53256, 53264];
     for edition in Edition::ALL {
-        for length in 0..8 {
-            assert!(!fit(&edition.blank_sheet(1, 4)[..length]));
+        for n in [1, 256] {
+            for length in edges.into_iter().flat_map(|edge| edge - 1..=edge + 1) {
+                let mut sheet = edition.blank_sheet(n, 4);
+                sheet.resize(length, 0);
+                let fits = whole.contains(&(edition.number(), n, length));
+                assert_eq!(fit(&sheet), fits, "{edition:?} {n} {length}");
+            }
         }
-        assert!(!fit(&edition.blank_sheet(0, 4)));
     }
 }
 
@@ -121,7 +128,7 @@ fn n_is_1_to_256() {
 }
 
 #[test]
-fn t_is_4_6_or_8_and_the_edition_is_1() {
+fn t_is_4_6_or_8_and_byte_3_the_edition_of_the_length() {
     for edition in Edition::ALL {
         let sheet = edition.blank_sheet(1, 4);
         for value in 0..=255 {
@@ -234,4 +241,39 @@ fn random_bytes_are_judged_as_the_table_says() {
             assert_eq!(fit(&sheet), meets_the_layout(&sheet));
         }
     }
+}
+
+/// The sheet with the other edition in byte 3: as it is, 8 bytes longer or
+/// shorter at its end, and with 8 zeros put in or 8 bytes taken out after w.
+fn relabelled(sheet: &[u8]) -> [Vec<u8>; 5] {
+    let mut same = sheet.to_vec();
+    same[3] = 3 - same[3];
+    let longer = [&same[..], &[0; 8]].concat();
+    let shorter = same[..same.len() - 8].to_vec();
+    let put_in = [&same[..8], &[0; 8], &same[8..]].concat();
+    let taken_out = [&same[..8], &same[16..]].concat();
+    [same, longer, shorter, put_in, taken_out]
+}
+
+#[test]
+fn a_relabelled_sheet_is_held_to_the_rules_of_the_other_edition() {
+    let mut random = Random::new(33);
+    let mut fitting = [0; 5];
+    for edition in [Edition::One, Edition::Two(0), Edition::Two(0xa53c)] {
+        let mixed = mixed_sheet(&mut random, edition, 4);
+        for mut sheet in [edition.blank_sheet(3, 4), mixed] {
+            for w in [3, u32::MAX] {
+                set_w(&mut sheet, w);
+                for (way, relabelled) in relabelled(&sheet).iter().enumerate() {
+                    assert_eq!(fit(relabelled), meets_the_layout(relabelled));
+                    fitting[way] += u32::from(fit(relabelled));
+                }
+            }
+        }
+    }
+    // Longer: edition 1's blank sheets, their zeros moved into the header.
+    // Shorter: the blank sheets with serial 0, and with 0xa53c where w is above
+    // that serial read as a write number. Put in: all of edition 1. Taken out:
+    // all of edition 2.
+    assert_eq!(fitting, [0, 2, 3, 4, 8]);
 }

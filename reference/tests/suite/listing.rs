@@ -1,4 +1,4 @@
-//! The listing text (document 01).
+//! The listing text (document 01; document 02, request 3).
 
 use crate::edition::Edition;
 use crate::random::Random;
@@ -63,14 +63,16 @@ fn an_unfit_sheet_prints_unfit_alone() {
 }
 
 #[test]
-fn above_53256_bytes_prints_unfit_alone() {
+fn up_to_53264_bytes_are_listed() {
+    assert_eq!(reference::listing::MOST_BYTES, 53264);
     for edition in Edition::ALL {
         let longest = edition.sheet_length(256);
         let mut sheet = edition.blank_sheet(257, 4);
         assert_eq!(text(&sheet), "unfit\n");
         sheet[1] = 0;
-        assert_eq!(text(&sheet), "unfit\n");
-        assert_eq!(text(&sheet[..longest + 1]), "unfit\n");
+        for length in [longest - 1, longest + 1, 53265, sheet.len()] {
+            assert_eq!(text(&sheet[..length]), "unfit\n");
+        }
         assert!(text(&sheet[..longest]).starts_with("slots 256 key 64 last 0\n"));
     }
 }

@@ -1,4 +1,5 @@
-//! Each refusal from both sides, and their order (document 01, the table).
+//! Each refusal from both sides, and their order (document 01, the table;
+//! document 02, request 3).
 
 use crate::edition::Edition;
 use crate::random::Random;
@@ -123,6 +124,9 @@ pub struct Call {
     pub window: Vec<u8>,
 }
 
+/// How many ways there are of provoking a refusal, at most.
+pub const WAYS: usize = 8;
+
 /// A call to which each refusal of the set applies, whatever else does:
 /// `way` chooses among ways of provoking one.
 pub fn call_for(
@@ -154,13 +158,16 @@ pub fn call_for(
         keys = unlike(random, class);
     }
     if provoke(4) {
-        match way % 6 {
+        match way % WAYS {
             0 => sheet[3] = UNKNOWN_EDITION,
-            1 => sheet.truncate(7),
+            1 => sheet.truncate(edition.header() - 1),
             2 => sheet[edition.mark_place(0).start + 12] = 1,
             3 => sheet[edition.field_place(3, 0).start] = 1,
             4 => sheet.push(0),
-            _ => sheet.clear(),
+            5 => sheet.clear(),
+            6 => sheet[3] = 3 - edition.number(),
+            // A zero byte of the header, in edition 1 one of slot 0's mark.
+            _ => sheet[15] = 1,
         }
     }
     if provoke(1) {
@@ -202,7 +209,7 @@ fn a_write_gives_the_first_refusal_of_every_set() {
     let mut random = Random::new(71);
     for (edition, t) in kinds() {
         for set in subsets(&[1, 2, 4, 5, 6, 7, 8]) {
-            for way in 0..6 {
+            for way in 0..WAYS {
                 let mut call = call_for(&set, (edition, t), way, &mut random);
                 let before = call.sheet.clone();
                 let answer = reference::write(
@@ -231,7 +238,7 @@ fn a_read_gives_the_first_refusal_of_every_set_and_zeroes_its_window() {
     }
     for (edition, t) in kinds() {
         for set in &sets {
-            for way in 0..6 {
+            for way in 0..WAYS {
                 let mut call = call_for(set, (edition, t), way, &mut random);
                 let answer = reference::read(
                     &call.sealing,

@@ -1,4 +1,5 @@
-//! What the calls store and show (document 01, "The sheet").
+//! What the calls store and show (document 01, "The sheet"; document 02,
+//! request 3).
 
 use crate::edition::Edition;
 use crate::random::Random;
@@ -9,11 +10,13 @@ fn blocks(bytes: &[u8]) -> Vec<[u8; 8]> {
     bytes.chunks(8).map(|b| b.try_into().unwrap()).collect()
 }
 
-/// Start block by the paper: write number, slot, two zero bytes, sealed.
-fn start(key: &[u8], number: u32, slot: usize) -> [u8; 8] {
+/// Start block by the papers: write number, slot, serial (edition 1: two zero
+/// bytes), sealed.
+fn start(edition: Edition, key: &[u8], number: u32, slot: usize) -> [u8; 8] {
     let mut plain = [0; 8];
     plain[..4].copy_from_slice(&number.to_be_bytes());
     plain[4..6].copy_from_slice(&(slot as u16).to_be_bytes());
+    plain[6..].copy_from_slice(&edition.start_tail());
     encrypt(key, plain)
 }
 
@@ -40,7 +43,7 @@ fn put(
     let n = usize::from(u16::from_be_bytes([sheet[0], sheet[1]]));
     let field = cbc_encrypt(
         &|block| encrypt(&keys.0, block),
-        start(&keys.0, number, slot),
+        start(edition, &keys.0, number, slot),
         &blocks(&plain),
     )
     .concat();
@@ -207,24 +210,6 @@ fn a_write_and_a_clear_test_nothing_of_the_former_content_beyond_the_layout() {
         assert_eq!(reference::clear(&mut sheet, 1), accepted(0));
         assert_eq!(read(&keys, &sheet, 0), (accepted(3), shown(b"new")));
         assert_eq!(read(&keys, &sheet, 1), (refused(9), [0; 192]));
-    }
-}
-
-#[test]
-fn a_slot_altered_in_any_byte_is_not_read() {
-    let mut random = Random::new(58);
-    for (edition, t) in kinds() {
-        let keys = pair(&mut random, edition, t);
-        let sheet = full_sheet(&mut random, edition, &keys, 2, t);
-        for place in edition.mark_place(1).chain(edition.field_place(2, 1)) {
-            let mut altered = sheet.clone();
-            altered[place] ^= 1 << random.below(8);
-            let number = if reference::fit(&altered) { 10 } else { 4 };
-            assert_eq!(read(&keys, &altered, 1), (refused(number), [0; 192]));
-            // The other slot is read as long as the sheet fits.
-            let (answer, _) = read(&keys, &altered, 0);
-            assert_eq!(answer.number, if number == 4 { 4 } else { 0 });
-        }
     }
 }
 

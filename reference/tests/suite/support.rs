@@ -71,7 +71,7 @@ pub fn cmac(key: &[u8], message: &[u8]) -> [u8; 8] {
 /// Keys that serve a blank sheet of an edition and a class.
 pub fn pair(random: &mut Random, edition: Edition, t: usize) -> (Vec<u8>, Vec<u8>) {
     match edition {
-        Edition::One => unlike(random, t),
+        Edition::One | Edition::Two(_) => unlike(random, t),
     }
 }
 
@@ -83,12 +83,6 @@ pub fn unlike(random: &mut Random, t: usize) -> (Vec<u8>, Vec<u8>) {
         checking[0] ^= 1;
     }
     (sealing, checking)
-}
-
-/// Blanking. Only the tests of blanking itself call it; all others lay out a
-/// blank sheet.
-pub fn blank(sheet: &mut [u8], n: usize, t: usize) -> Answer {
-    reference::blank(sheet, n, t)
 }
 
 pub fn set_w(sheet: &mut [u8], w: u32) {

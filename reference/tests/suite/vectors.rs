@@ -159,17 +159,25 @@ fn cbc() {
     }
 }
 
-/// Lines of `vectors sheet` for one t: calls, reads, listing.
+/// Lines of `vectors sheet` for one sheet: calls, reads, listing.
 const SHEET_LINES: usize = 10 + 6 + 4;
+
+/// The sheets of `vectors sheet`: first word, edition, t.
+fn listed_sheets() -> impl Iterator<Item = (&'static str, Edition, usize)> {
+    CLASSES.into_iter().flat_map(|t| {
+        let blanked = Edition::Two(0x5a00 + t as u16);
+        [("blank", blanked, t), ("old", Edition::One, t)]
+    })
+}
 
 #[test]
 fn sheet() {
     let text = vectors::sheet();
     let lines = lines(&text);
-    assert_eq!(lines.len(), 3 * SHEET_LINES);
-    for (place, lines) in lines.chunks(SHEET_LINES).enumerate() {
+    assert_eq!(lines.len(), 6 * SHEET_LINES);
+    for (lines, (origin, _, t)) in lines.chunks(SHEET_LINES).zip(listed_sheets()) {
         let starts = [
-            ["blank", "0", "0"],
+            [origin, "0", "0"],
             ["write", "0", "0"],
             ["write", "0", "0"],
             ["write", "0", "0"],
@@ -198,7 +206,7 @@ fn sheet() {
             assert_eq!(line[..4], start);
             assert_eq!(line[4].len(), 384);
         }
-        let bits = (16 * CLASSES[place]).to_string();
+        let bits = (16 * t).to_string();
         assert_eq!(lines[16], ["slots", "3", "key", &bits, "last", "5"]);
         assert_eq!(lines[17], ["0", "written", "5", "3"]);
         assert_eq!(lines[18], ["1", "written", "4", "3"]);
@@ -206,11 +214,10 @@ fn sheet() {
     }
 }
 
-/// The sheet of `vectors sheet` after its clear.
-fn cleared_sheet(keys: &(Vec<u8>, Vec<u8>), t: usize) -> Vec<u8> {
+/// A sheet of `vectors sheet` after its clear.
+fn cleared_sheet(keys: &(Vec<u8>, Vec<u8>), mut sheet: Vec<u8>) -> Vec<u8> {
     let seventeen: Vec<u8> = (0..17).map(|i| ((53 * i + 7) % 256) as u8).collect();
     let longest: Vec<u8> = (0..192).map(|i| ((31 * i + 5) % 256) as u8).collect();
-    let mut sheet = Edition::BLANKED.blank_sheet(3, t);
     let writes: [(usize, &[u8]); 4] = [(0, b""), (1, &seventeen), (2, &longest), (1, b"abc")];
     for (slot, caption) in writes {
         assert_eq!(write(keys, &mut sheet, slot, caption), accepted(0));
@@ -223,11 +230,13 @@ fn cleared_sheet(keys: &(Vec<u8>, Vec<u8>), t: usize) -> Vec<u8> {
 fn sheet_with_twin_keys_and_near_twins() {
     let text = vectors::sheet();
     let lines = lines(&text);
-    for (lines, t) in lines.chunks(SHEET_LINES).zip(CLASSES) {
+    for (lines, (_, edition, t)) in lines.chunks(SHEET_LINES).zip(listed_sheets()) {
         let keys = (numbered_key(t, t), numbered_key(t, t + 1));
-        let mut sheet = cleared_sheet(&keys, t);
-        let before = sheet.clone();
         let printed_mac = |line: usize| hex_block(lines[line][3]);
+        let blank = edition.blank_sheet(3, t);
+        assert_eq!(printed_mac(0), cmac(&keys.1, &blank));
+        let mut sheet = cleared_sheet(&keys, blank);
+        let before = sheet.clone();
         assert_eq!(printed_mac(8), cmac(&keys.1, &before));
 
         let twins = (keys.0.clone(), keys.0.clone());

@@ -94,12 +94,18 @@ impl Both {
     }
 
     /// Blanking; `sheet` becomes what both programs leave.
-    pub fn blank(&mut self, sheet: &mut [u8], slots: usize, key_words: usize) -> Answer {
+    pub fn blank(
+        &mut self,
+        sheet: &mut [u8],
+        slots: usize,
+        key_words: usize,
+        serial: u16,
+    ) -> Answer {
         let length = sheet.len();
-        let call = || format!("blank {slots} {key_words} on {length} bytes");
+        let call = || format!("blank {slots} {key_words} {serial} on {length} bytes");
         let mut lent_sheet = self.lend(sheet);
-        let theirs = reference::blank(sheet, slots, key_words);
-        let ours = library::blank(lent_sheet.bytes_mut(), slots, key_words);
+        let theirs = reference::blank(sheet, slots, key_words, serial);
+        let ours = library::blank(lent_sheet.bytes_mut(), slots, key_words, serial);
         self.hold_answer(call, ours, theirs);
         self.hold_bytes(call, "sheet", &lent_sheet, sheet);
         ours
@@ -108,10 +114,13 @@ impl Both {
     /// A blank sheet of an edition: blanked by both programs in place of what
     /// `sheet` holds if that is the edition they make, else laid out.
     pub fn begin(&mut self, edition: Edition, sheet: &mut [u8], slots: usize, key_words: usize) {
-        if edition == Edition::BLANKED {
-            self.blank(sheet, slots, key_words);
-        } else {
-            sheet.copy_from_slice(&edition.blank_sheet(slots, key_words));
+        let laid_out = edition.blank_sheet(slots, key_words);
+        match edition {
+            Edition::One => sheet.copy_from_slice(&laid_out),
+            Edition::Two(serial) => {
+                self.blank(sheet, slots, key_words, serial);
+                assert!(*sheet == laid_out, "{}: not blank", self.label);
+            }
         }
     }
 

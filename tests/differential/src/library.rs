@@ -55,6 +55,7 @@ mod c {
             sheet_len: usize,
             slots: usize,
             key_words: usize,
+            serial: u16,
         ) -> Answer;
         pub fn captions_write(
             sealing_key: *const u8,
@@ -161,8 +162,8 @@ pub fn cmac(key: &[u8], message: &[u8], out: &mut [u8]) -> Answer {
 }
 
 #[inline]
-pub fn blank(sheet: &mut [u8], slots: usize, key_words: usize) -> Answer {
-    answer(unsafe { c::captions_blank(sheet.as_mut_ptr(), sheet.len(), slots, key_words) })
+pub fn blank(sheet: &mut [u8], slots: usize, key_words: usize, serial: u16) -> Answer {
+    answer(unsafe { c::captions_blank(sheet.as_mut_ptr(), sheet.len(), slots, key_words, serial) })
 }
 
 #[inline]

@@ -16,6 +16,22 @@ pub fn kinds() -> impl Iterator<Item = (Edition, usize)> {
 /// A value of byte 3 that is no edition's; the next is none's either.
 pub const UNKNOWN_EDITION: u8 = Edition::BLANKED.number() + 1;
 
+/// A serial: those about every edge, and any.
+pub fn some_serial(random: &mut Random) -> u16 {
+    match random.below(2) {
+        0 => random.pick(&Edition::SERIALS),
+        _ => random.number() as u16,
+    }
+}
+
+/// The edition, with another serial where it has one.
+pub fn with_some_serial(random: &mut Random, edition: Edition) -> Edition {
+    match edition {
+        Edition::One => Edition::One,
+        Edition::Two(_) => Edition::Two(some_serial(random)),
+    }
+}
+
 /// A window's length, and the longest caption's.
 pub const FIELD: usize = 192;
 
@@ -30,7 +46,7 @@ impl Keys {
     /// Keys that serve a blank sheet of an edition and a class.
     pub fn own(random: &mut Random, edition: Edition, t: usize) -> Keys {
         match edition {
-            Edition::One => Keys::unlike(random, t),
+            Edition::One | Edition::Two(_) => Keys::unlike(random, t),
         }
     }
 
@@ -95,7 +111,7 @@ pub fn caption_length(random: &mut Random) -> usize {
 /// A sheet that meets the layout, each slot blank or written; fields and
 /// checks are random bytes, which the layout doesn't look at.
 pub fn fit_sheet(random: &mut Random, edition: Edition, n: usize, t: usize) -> Vec<u8> {
-    let mut sheet = edition.blank_sheet(n, t);
+    let mut sheet = with_some_serial(random, edition).blank_sheet(n, t);
     let w = match random.below(8) {
         0 => 0,
         1 => u32::MAX,
@@ -123,7 +139,7 @@ pub fn fit_sheet(random: &mut Random, edition: Edition, n: usize, t: usize) -> V
 }
 
 /// The ways to break a rule of the layout.
-pub const FAULTS: usize = 13;
+pub const FAULTS: usize = 16;
 
 /// A fit sheet with one thing altered: most often unfit then, by the rule of
 /// that number, and sometimes still fit.
@@ -160,9 +176,24 @@ pub fn near_sheet(
         11 => {
             sheet.pop();
         }
+        // Edition 2's zero bytes; in edition 1 bytes of the first mark.
+        12 => sheet[10 + random.below(6)] ^= some_byte,
+        13 => sheet[3] = other_edition(edition).number(),
+        14 => {
+            sheet[3] = other_edition(edition).number();
+            sheet.resize(other_edition(edition).sheet_length(n), 0);
+        }
         _ => sheet.push(random.pick(&[0, some_byte])),
     }
     sheet
+}
+
+/// The edition that a sheet is relabelled as.
+pub fn other_edition(edition: Edition) -> Edition {
+    match edition {
+        Edition::One => Edition::BLANKED,
+        Edition::Two(_) => Edition::One,
+    }
 }
 
 fn set_slot_count(sheet: &mut [u8], n: usize) {

@@ -2,8 +2,9 @@
 //! the library's block calls and to openssl, and a sheet's sealed field and
 //! check are put together again from the library's block and CMAC calls.
 
+use differential::edition::Edition;
 use differential::random::{seed, Random};
-use differential::sheets::{kinds, Keys, CLASSES, FIELD};
+use differential::sheets::{Keys, CLASSES, FIELD};
 use differential::{des, library, openssl, report};
 use reference::cipher::{decrypt, encrypt, Block, Register};
 use reference::modes::{cbc_decrypt, cbc_encrypt};
@@ -111,13 +112,38 @@ fn des_ede3_is_openssl_s() {
     ));
 }
 
-/// The 208 bytes that a write stores, from document 01's words and the
-/// library's own block and CMAC calls.
+/// The plain start block: write number, slot, and the serial or two zero bytes.
+fn plain_start(edition: Edition, number: u32, slot: usize) -> Block {
+    let [a, b, c, d] = number.to_be_bytes();
+    let [e, f] = (slot as u16).to_be_bytes();
+    let [g, h] = edition.start_tail();
+    [a, b, c, d, e, f, g, h]
+}
+
+/// A sealed field opened by the second program's cipher and CBC.
+fn opened(key: &[u8], plain_start: Block, field: &[u8]) -> Vec<u8> {
+    let register = Register::of_key(key).expect("a key of t words");
+    let start = encrypt(register, plain_start);
+    let blocks = field.as_chunks::<8>().0;
+    cbc_decrypt(&|block| decrypt(register, block), start, blocks).concat()
+}
+
+/// Edition 1, and edition 2 with serials about every edge; every class.
+fn kinds_by_serial() -> Vec<(Edition, usize)> {
+    let two = Edition::SERIALS.into_iter().map(Edition::Two);
+    let editions = std::iter::once(Edition::One).chain(two);
+    editions
+        .flat_map(|edition| CLASSES.map(|t| (edition, t)))
+        .collect()
+}
+
+/// The 208 bytes that a write stores, from the papers' words and the library's
+/// own block and CMAC calls; the second program's CBC opens them again.
 #[test]
 fn a_write_stores_the_field_and_the_check_of_the_papers() {
-    const WRITES: usize = 2_000;
+    const WRITES: usize = 400;
     let mut random = Random::of_part(303);
-    for (edition, t) in kinds() {
+    for (edition, t) in kinds_by_serial() {
         let mut sheet = edition.blank_sheet(5, t);
         let keys = Keys::own(&mut random, edition, t);
         for number in 1..=WRITES as u32 {
@@ -127,11 +153,11 @@ fn a_write_stores_the_field_and_the_check_of_the_papers() {
             let answer = library::write(&keys.sealing, &keys.checking, &mut sheet, slot, &caption);
             assert_eq!(answer.number, 0);
 
-            let [a, b, c, d] = number.to_be_bytes();
-            let [e, f] = (slot as u16).to_be_bytes();
+            let start = plain_start(edition, number, slot);
+            let [a, b, c, d, e, f, ..] = start;
             let mut plain = caption.clone();
             plain.resize(FIELD, 0);
-            let mut before = encrypted(&mut random, &keys.sealing, [a, b, c, d, e, f, 0, 0]);
+            let mut before = encrypted(&mut random, &keys.sealing, start);
             let mut field = Vec::new();
             for block in plain.as_chunks::<8>().0 {
                 before = encrypted(&mut random, &keys.sealing, xor(*block, before));
@@ -146,10 +172,11 @@ fn a_write_stores_the_field_and_the_check_of_the_papers() {
             assert_eq!(sheet[4..8], [a, b, c, d]);
             assert_eq!(sheet[edition.mark_place(slot)], mark);
             assert_eq!(sheet[edition.field_place(5, slot)], field);
+            assert_eq!(opened(&keys.sealing, start, &field), plain);
         }
     }
     report(&format!(
-        "cbc: {} writes put together again from block and CMAC calls",
-        kinds().count() * WRITES
+        "cbc: {} writes put together again from block and CMAC calls, and opened",
+        kinds_by_serial().len() * WRITES
     ));
 }

@@ -118,10 +118,9 @@ fn sheets_with_a_rule_broken() {
 fn lengths_around_the_shortest_and_the_longest() {
     let mut random = Random::of_part(403);
     let mut both = both("lengths of sheets");
-    let long = [
-        53_048, 53_255, 53_256, 53_257, 53_264, 53_464, 65_536, 1_000_000,
-    ];
-    for length in (0..=24).chain(210..=220).chain(long) {
+    let longest = (53_255..=53_257).chain(53_263..=53_265);
+    let long = longest.chain([53_048, 53_056, 53_464, 53_472, 65_536, 1_000_000]);
+    for length in (0..=24).chain(210..=230).chain(long) {
         both.list(&vec![0; length]);
         both.list(&random.bytes(length));
         for edition in Edition::ALL {

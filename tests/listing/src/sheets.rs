@@ -37,6 +37,10 @@ pub fn all() -> Vec<Sheet> {
         sheets.written();
         sheets.digits();
         sheets.header_faults();
+        if let Edition::Two(_) = edition {
+            sheets.serials();
+        }
+        sheets.relabelled();
         sheets.length_faults();
         sheets.mark_faults();
         sheets.changed_bytes();
@@ -103,7 +107,7 @@ impl Sheets {
     /// Keys that serve a blank sheet of a class.
     fn keys(&mut self, t: usize) -> [Vec<u8>; 2] {
         match self.edition {
-            Edition::One => [self.random.bytes(2 * t), self.random.bytes(2 * t)],
+            Edition::One | Edition::Two(_) => [self.random.bytes(2 * t), self.random.bytes(2 * t)],
         }
     }
 
@@ -168,28 +172,69 @@ impl Sheets {
             sheet[2] = t;
             self.add("unfit: key class", format!("t = {t}"), sheet);
         }
-        let next = Edition::BLANKED.number() + 1;
-        for edition in [0, next, next + 1, next + 2, 127, 129, 255] {
+        let own = self.edition.number();
+        for edition in (0..=255).filter(|edition| *edition != own) {
             let mut sheet = self.marked(1, 9);
             sheet[3] = edition;
             self.add("unfit: edition", format!("edition {edition}"), sheet);
         }
     }
 
-    fn length_faults(&mut self) {
-        for length in 0..8 {
-            let sheet = self.edition.blank_sheet(1, 4)[..length].to_vec();
-            self.add("unfit: under 8 bytes", format!("{length} bytes"), sheet);
+    /// What edition 2's header has more: any serial, and six zero bytes.
+    fn serials(&mut self) {
+        for serial in Edition::SERIALS {
+            let mut sheet = self.marked(2, 9);
+            sheet[8..10].copy_from_slice(&serial.to_be_bytes());
+            self.add("fit: serials", format!("serial {serial}"), sheet);
         }
+        for place in 10..16 {
+            for value in [1, 128, 255] {
+                let mut sheet = self.marked(2, 9);
+                sheet[place] = value;
+                let what = format!("byte {place} is {value}");
+                self.add("unfit: zero bytes", what, sheet);
+            }
+        }
+    }
+
+    /// The other edition's number and length: with bytes put on or taken off in
+    /// the header, where the marks stay whole, or at the end.
+    fn relabelled(&mut self) {
         let header = self.edition.header();
+        let other = match self.edition {
+            Edition::One => Edition::BLANKED,
+            Edition::Two(_) => Edition::One,
+        };
+        for slots in [1, 3, 256] {
+            for mut sheet in [self.edition.blank_sheet(slots, 4), self.marked(slots, 9)] {
+                sheet[3] = other.number();
+                let mut whole = sheet[..8].to_vec();
+                whole.resize(other.header(), 0);
+                whole.extend(&sheet[header..]);
+                let what = format!("{slots} slots, as {other:?}");
+                self.add("fit: relabelled", what.clone(), whole);
+                sheet.resize(other.sheet_length(slots), 0);
+                self.add("either: relabelled", what, sheet);
+            }
+        }
+    }
+
+    fn length_faults(&mut self) {
+        let header = self.edition.header();
+        for length in 0..header {
+            let sheet = self.edition.blank_sheet(1, 4)[..length].to_vec();
+            self.add("unfit: a torn header", format!("{length} bytes"), sheet);
+        }
         for slots in [1, 2, 3, 256] {
             let right = self.edition.sheet_length(slots);
             for length in [
                 header,
                 header + 1,
                 right - 208,
+                right - 8,
                 right - 1,
                 right + 1,
+                right + 8,
                 right + 16,
                 right + 208,
             ] {

@@ -1,7 +1,7 @@
 -- `layout::header_rule` meets its contract.
 use borrow.Author.Needs.{needs}
 use borrow.Author.Tests.{not-true, not-false}
-use Rattle.layout.proofs.Header.{class-byte, header-byte, rule-other, rule-edition}
+use Rattle.layout.proofs.Header.{class-byte, header-byte, two-long, rule-other, rule-two, rule-one}
 use Rattle.layout.proofs.header_rule.Statement.{statement}
 use Rattle.layout.proofs.header_rule.Tie as tie
 
@@ -13,4 +13,9 @@ header-rule-spec =
     (λ c κs. search needs)
     (λ c. search (rule-other, not-true))
     (λ c κs. search header-byte)
-    (λ c. search (rule-edition, not-false)))
+    (λ c. search needs)
+    (λ c. search needs)
+    (λ c. search (two-long, needs))
+    (λ c κs. search needs)
+    (λ c. search (rule-two, not-false))
+    (λ c. search (rule-one, not-false)))

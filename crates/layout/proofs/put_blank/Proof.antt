@@ -20,4 +20,8 @@ put-blank-spec =
     (λ c. unfold sheetSize in simp length-set (omega arith))
     (λ c. unfold sheetSize in simp length-set (omega arith))
     (λ c. search needs)
+    (λ c. unfold sheetSize in simp length-set (omega arith))
+    (λ c. search needs)
+    (λ c. unfold sheetSize in simp length-set (omega arith))
+    (λ c. search needs)
     (λ c. search blank-stored))

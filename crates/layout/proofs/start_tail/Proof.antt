@@ -1,7 +1,14 @@
 -- `layout::start_tail` meets its contract.
-use Rattle.layout.proofs.Header.{tail-one}
+use borrow.Author.Needs.{needs}
+use Rattle.layout.proofs.Header.{header-byte, two-inside, tail-two, tail-one}
 use Rattle.layout.proofs.start_tail.Statement.{statement}
 use Rattle.layout.proofs.start_tail.Tie as tie
 
 pub start-tail-spec : {M : Type 1} → statement M
-start-tail-spec = tie.close (tie.spec (λ c. search tail-one))
+start-tail-spec =
+    tie.close
+    (tie.spec
+    (λ c κs. search header-byte)
+    (λ c κs. search (two-inside, needs))
+    (λ c. search tail-two)
+    (λ c. search tail-one))

@@ -4,13 +4,14 @@ use crate::both;
 use crate::edges::done;
 use differential::edition::Edition;
 use differential::random::Random;
+use differential::sheets::some_serial;
 use reference::{WRONG_KEY, WRONG_SPAN};
 
-/// n = 1 is 216 bytes, n = 256 is 53256; t is 4, 6 or 8.
+/// n = 1 is 224 bytes, n = 256 is 53264; t is 4, 6 or 8; every serial is taken.
 #[test]
 fn blanking() {
     let edition = Edition::BLANKED;
-    assert_eq!([1, 256].map(|n| edition.sheet_length(n)), [216, 53_256]);
+    assert_eq!([1, 256].map(|n| edition.sheet_length(n)), [224, 53_264]);
     let mut random = Random::of_part(504);
     let mut both = both("blanking");
     let wrapping = (1 << 60) + 1; // 208 times it is 208 in 64 bits
@@ -31,11 +32,8 @@ fn blanking() {
     let classes = || (0..=20).chain([256 + 4, 65_536 + 6, (1 << 32) + 8, usize::MAX]);
     let (header, one) = (edition.header(), edition.sheet_length(1));
     for n in counts {
-        let near = if n <= 258 {
-            edition.sheet_length(n)
-        } else {
-            one
-        };
+        let near_count = if n <= 258 { n } else { 1 };
+        let near = edition.sheet_length(near_count);
         for length in [
             0,
             1,
@@ -45,6 +43,7 @@ fn blanking() {
             one - 1,
             one,
             one + 1,
+            Edition::One.sheet_length(near_count),
             near - 1,
             near,
             near + 1,
@@ -57,12 +56,10 @@ fn blanking() {
                     (4 | 6 | 8, _) => WRONG_SPAN,
                     _ => WRONG_KEY,
                 };
-                assert_eq!(
-                    both.blank(&mut sheet, n, t).number,
-                    number,
-                    "{n} {t} {length}"
-                );
-                assert!(number != 0 || sheet == edition.blank_sheet(n, t));
+                let serial = some_serial(&mut random);
+                let answer = both.blank(&mut sheet, n, t, serial);
+                assert_eq!(answer.number, number, "{n} {t} {length}");
+                assert!(number != 0 || sheet == Edition::Two(serial).blank_sheet(n, t));
             }
         }
     }

@@ -5,7 +5,9 @@ use differential::both::Both;
 use differential::edition::Edition;
 use differential::random::{seed, Random};
 use differential::report;
-use differential::sheets::{fit_sheet, kinds, near_sheet, Keys, CLASSES, FAULTS, FIELD};
+use differential::sheets::{
+    fit_sheet, kinds, near_sheet, some_serial, Keys, CLASSES, FAULTS, FIELD,
+};
 use differential::terms::{day_near, some_terms};
 
 /// The slots of an edition's sheet that a length has room for.
@@ -35,8 +37,9 @@ pub fn each_call(both: &mut Both, random: &mut Random, edition: Edition, sheet: 
         both.write(&keys, &mut sheet.to_vec(), slot, &caption);
         both.clear(&mut sheet.to_vec(), slot);
     }
-    both.blank(&mut sheet.to_vec(), n, t);
-    both.blank(&mut sheet.to_vec(), n + 1, t);
+    for slots in [n, n + 1] {
+        both.blank(&mut sheet.to_vec(), slots, t, some_serial(random));
+    }
 }
 
 /// A buffer of a length with the header of a sheet of about that length, so
@@ -48,6 +51,10 @@ fn with_header(random: &mut Random, edition: Edition, length: usize) -> Vec<u8> 
     let header = [high, low, random.pick(&[4, 6, 8]), edition.number()];
     for (place, byte) in buffer.iter_mut().zip(header) {
         *place = byte;
+    }
+    // Edition 2's zero bytes.
+    for byte in buffer.iter_mut().take(edition.header()).skip(10) {
+        *byte = 0;
     }
     buffer
 }
@@ -106,8 +113,7 @@ fn every_length_from_0_to_700() {
 
 #[test]
 fn lengths_around_the_longest() {
-    let name = format!("lengths around {}", Edition::BLANKED.sheet_length(256));
-    each_length(&name, 541, |edition| {
+    each_length("lengths around the longest", 541, |edition| {
         let [shorter, longest, longer] = [255, 256, 257].map(|n| edition.sheet_length(n));
         (longest - 12..=longest + 14)
             .chain(shorter - 1..=shorter + 1)

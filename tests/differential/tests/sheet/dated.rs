@@ -191,7 +191,7 @@ fn fenced_terms(place: Place, part: u64) {
     torn_terms(&mut both, &mut random);
     both.hold_met([0, 4]);
     for (edition, t) in kinds() {
-        random_calls(&mut both, &mut random, (edition, t), 50);
+        random_calls(&mut both, &mut random, (edition, t), 25);
     }
     both.hold_met(NUMBERS);
     done(&both, &format!("{place:?}, term sheets and dated reads"));
@@ -317,7 +317,7 @@ fn random_dated_reads() {
     let mut random = Random::of_part(590);
     let mut both = both("random dated reads");
     for (edition, t) in kinds() {
-        random_calls(&mut both, &mut random, (edition, t), 400);
+        random_calls(&mut both, &mut random, (edition, t), 200);
     }
     both.hold_met(NUMBERS);
     done(&both, &format!("random dated reads, seed {:#x}", seed()));

@@ -5,13 +5,16 @@ use differential::both::Both;
 use differential::edition::Edition;
 use differential::random::{seed, Random};
 use differential::report;
-use differential::sheets::{caption_length, last_number, set_last_number, Keys, CLASSES, FIELD};
+use differential::sheets::{
+    caption_length, last_number, set_last_number, some_serial, with_some_serial, Keys, CLASSES,
+    FIELD,
+};
 use differential::term_sheet::{belongs, on_show, LAST_DAY};
 use differential::terms::{day_near, some_terms};
 use reference::{Answer, Book, NOT_ON_SHOW};
 
-/// Lists for each class; three classes make more than 20,000.
-const LISTS: usize = 7_000;
+/// Lists for each edition and class; all six make more than 20,000.
+const LISTS: usize = 3_400;
 
 /// A sheet, the keys that belong to it, and the model while it applies.
 struct State {
@@ -232,7 +235,8 @@ impl State {
             0 => random.below(20),
             _ => random.pick(&CLASSES),
         };
-        if both.blank(&mut self.sheet, slots, t).number == 0 {
+        let serial = some_serial(random);
+        if both.blank(&mut self.sheet, slots, t, serial).number == 0 {
             self.begun(slots, t);
         }
     }
@@ -256,6 +260,7 @@ fn lists(t: usize) {
     let mut asked = Asked::default();
     for edition in Edition::ALL {
         for number in 0..LISTS {
+            let edition = with_some_serial(&mut random, edition);
             both.label = format!(
                 "list {number} of edition {edition:?} and class {t}, seed {:#x}",
                 seed()
@@ -270,7 +275,7 @@ fn lists(t: usize) {
         pages,
     } = asked;
     report(&format!(
-        "sheet: {LISTS} lists of calls, t = {t}, seed {:#x}: {calls} calls: {met}; the model: {answers} calls, {pages} pages",
+        "sheet: {LISTS} lists of calls for each edition, t = {t}, seed {:#x}: {calls} calls: {met}; the model: {answers} calls, {pages} pages",
         seed()
     ));
 }

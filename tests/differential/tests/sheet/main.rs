@@ -9,6 +9,7 @@ mod edges;
 mod faults;
 mod fences;
 mod lists;
+mod serials;
 
 use differential::both::Both;
 use differential::lent::Place;

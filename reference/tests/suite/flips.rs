@@ -1,0 +1,57 @@
+//! Reads of a sheet with one bit flipped (document 01, the table; document 02,
+//! request 3).
+
+use crate::edition::Edition;
+use crate::layout::meets_the_layout;
+use crate::random::Random;
+use crate::support::*;
+
+/// The number that a read of a slot answers with a bit of this place flipped.
+/// The three slots have a short caption, none, and the longest.
+fn number_after(edition: Edition, flipped: &[u8], place: usize, slot: usize) -> u8 {
+    let parts = [edition.mark_place(slot), edition.field_place(3, slot)];
+    let own = parts.iter().any(|part| part.contains(&place));
+    match slot {
+        _ if !meets_the_layout(flipped) => 4,
+        _ if place == 2 => 5,
+        _ if own => 10,
+        // The serial is in no check, but it changes zeros past a short caption.
+        0 if in_serial(edition, place) => 10,
+        1 => 9,
+        _ => 0,
+    }
+}
+
+fn in_serial(edition: Edition, place: usize) -> bool {
+    edition != Edition::One && (8..10).contains(&place)
+}
+
+#[test]
+fn every_bit_of_a_sheet_flipped() {
+    let mut random = Random::new(125);
+    for (edition, t) in kinds() {
+        let keys = pair(&mut random, edition, t);
+        let longest = random.bytes(192);
+        let mut sheet = edition.blank_sheet(3, t);
+        assert_eq!(write(&keys, &mut sheet, 0, b"short"), accepted(0));
+        assert_eq!(write(&keys, &mut sheet, 2, &longest), accepted(0));
+        let unflipped = [0, 1, 2].map(|slot| read(&keys, &sheet, slot));
+        for bit in 0..8 * sheet.len() {
+            let place = bit / 8;
+            let mut flipped = sheet.clone();
+            flipped[place] ^= 1 << (bit % 8);
+            for (slot, before) in unflipped.into_iter().enumerate() {
+                let after = read(&keys, &flipped, slot);
+                match number_after(edition, &flipped, place, slot) {
+                    0 if in_serial(edition, place) => {
+                        assert_eq!(after.0, before.0);
+                        assert_eq!(after.1[8..], before.1[8..]);
+                        assert_ne!(after.1[..8], before.1[..8]);
+                    }
+                    0 => assert_eq!(after, before, "{bit} {slot}"),
+                    number => assert_eq!(after, (refused(number), [0; 192]), "{bit} {slot}"),
+                }
+            }
+        }
+    }
+}

@@ -1,0 +1,170 @@
+//! Edition 2 beside edition 1 (document 02, request 3): serials, the six zero
+//! bytes, every value of byte 3, and sheets relabelled as the other edition.
+
+use crate::both;
+use crate::edges::done;
+use differential::both::Both;
+use differential::edition::Edition;
+use differential::random::Random;
+use differential::sheets::{kinds, other_edition, set_last_number, Keys, CLASSES, FIELD};
+use differential::term_sheet::{term_sheet, ALWAYS};
+use reference::UNFIT_SHEET;
+use std::collections::BTreeSet;
+
+const SLOTS: usize = 3;
+
+/// Writes a short caption into a blank sheet's first slot, the longest into its
+/// last.
+fn write_captions(both: &mut Both, keys: &Keys, sheet: &mut [u8]) {
+    for (slot, caption) in [(0, &b"short"[..]), (2, &[b'x'; FIELD])] {
+        assert_eq!(both.write(keys, sheet, slot, caption).number, 0);
+    }
+}
+
+fn written_sheet(both: &mut Both, keys: &Keys, edition: Edition, t: usize) -> Vec<u8> {
+    let mut sheet = edition.blank_sheet(SLOTS, t);
+    write_captions(both, keys, &mut sheet);
+    sheet
+}
+
+/// Holds that every call finds a sheet fit or unfit, on each slot and past them,
+/// and that an unfit one stays as it is.
+fn hold_fit(both: &mut Both, keys: &Keys, sheet: &[u8], fits: bool) {
+    let terms = term_sheet(&[ALWAYS; SLOTS]);
+    both.list(sheet);
+    for slot in 0..=SLOTS {
+        let (mut written, mut cleared) = (sheet.to_vec(), sheet.to_vec());
+        let answers = [
+            both.read(keys, sheet, slot, FIELD).0,
+            both.dated_read(keys, sheet, &terms, slot, 9, FIELD).0,
+            both.write(keys, &mut written, slot, b"another"),
+            both.clear(&mut cleared, slot),
+        ];
+        for answer in answers {
+            assert_eq!(answer.number != UNFIT_SHEET, fits, "{}", both.label);
+        }
+        assert!(fits || written == sheet && cleared == sheet);
+    }
+}
+
+/// Each blanking in the bytes that the one before left.
+#[test]
+fn every_serial_is_stored() {
+    let mut random = Random::of_part(570);
+    let mut both = both("every serial");
+    let mut sheet = random.bytes(Edition::BLANKED.sheet_length(1));
+    for serial in 0..=u16::MAX {
+        both.begin(Edition::Two(serial), &mut sheet, 1, 4);
+    }
+    assert_eq!(both.numbers[0], 65_536);
+    done(&both, "blanking with every serial");
+}
+
+/// What the request is for: the same keys, write number, slot and caption after
+/// each blanking, in the bytes of the sheet before. With serial 0 they are
+/// sealed as in edition 1.
+#[test]
+fn unlike_serials_seal_from_unlike_starts() {
+    let mut random = Random::of_part(571);
+    let mut both = both("unlike serials");
+    for t in CLASSES {
+        let keys = Keys::unlike(&mut random, t);
+        let old = written_sheet(&mut both, &keys, Edition::One, t);
+        let mut sheet = random.bytes(Edition::BLANKED.sheet_length(SLOTS));
+        let mut first_blocks = BTreeSet::new();
+        for serial in Edition::SERIALS {
+            let edition = Edition::Two(serial);
+            both.begin(edition, &mut sheet, SLOTS, t);
+            write_captions(&mut both, &keys, &mut sheet);
+            assert_eq!(sheet[16..] == old[8..], serial == 0);
+            let field = &sheet[edition.field_place(SLOTS, 2)];
+            first_blocks.insert(field[..8].to_vec());
+        }
+        assert_eq!(first_blocks.len(), Edition::SERIALS.len());
+    }
+    done(&both, "the same writes after blankings with unlike serials");
+}
+
+#[test]
+fn the_six_zero_bytes() {
+    let mut random = Random::of_part(572);
+    let mut both = both("the six zero bytes");
+    let keys = Keys::own(&mut random, Edition::BLANKED, 6);
+    let sheet = written_sheet(&mut both, &keys, Edition::BLANKED, 6);
+    for place in 10..16 {
+        for value in 0..=255 {
+            let mut near = sheet.clone();
+            near[place] = value;
+            hold_fit(&mut both, &keys, &near, value == 0);
+        }
+    }
+    done(&both, "the six zero bytes at every value");
+}
+
+/// Fit with its edition's number and length alone.
+#[test]
+fn every_value_of_byte_3() {
+    let mut random = Random::of_part(573);
+    let mut both = both("byte 3");
+    for (edition, t) in kinds() {
+        let keys = Keys::own(&mut random, edition, t);
+        let sheet = written_sheet(&mut both, &keys, edition, t);
+        for length in Edition::ALL.map(|edition| edition.sheet_length(SLOTS)) {
+            for value in 0..=255 {
+                let mut near = sheet.clone();
+                near[3] = value;
+                near.resize(length, 0);
+                let fits = near == sheet;
+                both.label = format!("byte 3 of {edition:?} is {value}, {length} bytes");
+                hold_fit(&mut both, &keys, &near, fits);
+            }
+        }
+    }
+    done(&both, "byte 3 at every value, at either edition's length");
+}
+
+/// The sheet with the other edition's number and length: bytes put on or taken
+/// off at its end, or in its header, where marks and fields stay whole.
+fn relabelled(edition: Edition, sheet: &[u8]) -> [Vec<u8>; 2] {
+    let other = other_edition(edition);
+    let mut sheet = sheet.to_vec();
+    sheet[3] = other.number();
+    let mut in_header = sheet[..8].to_vec();
+    in_header.resize(other.header(), 0);
+    in_header.extend(&sheet[edition.header()..]);
+    sheet.resize(other.sheet_length(SLOTS), 0);
+    [sheet, in_header]
+}
+
+#[test]
+fn sheets_relabelled_as_the_other_edition() {
+    let mut random = Random::of_part(574);
+    let mut both = both("relabelled sheets");
+    for t in CLASSES {
+        for edition in [Edition::One, Edition::Two(0), Edition::BLANKED] {
+            let keys = Keys::own(&mut random, edition, t);
+            let no_serial = edition.start_tail() == [0, 0];
+            for w in [2, u32::MAX] {
+                // At its end: the zeros of a blank slot become header, or the
+                // header a blank slot's or, by a serial up to w, a written one's.
+                let mut blank = edition.blank_sheet(SLOTS, t);
+                set_last_number(&mut blank, w);
+                let [at_end, in_header] = relabelled(edition, &blank);
+                hold_fit(&mut both, &keys, &at_end, no_serial || w == u32::MAX);
+                hold_fit(&mut both, &keys, &in_header, true);
+
+                let mut written = written_sheet(&mut both, &keys, edition, t);
+                set_last_number(&mut written, w);
+                let [at_end, in_header] = relabelled(edition, &written);
+                hold_fit(&mut both, &keys, &at_end, false);
+                hold_fit(&mut both, &keys, &in_header, true);
+                let reads_alike = [0, 1, 2].map(|slot| {
+                    let read = both.read(&keys, &written, slot, FIELD);
+                    both.read(&keys, &in_header, slot, FIELD) == read
+                });
+                assert_eq!(reads_alike, [no_serial, true, no_serial]);
+            }
+        }
+    }
+    done(&both, "sheets relabelled as the other edition");
+}
