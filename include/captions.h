@@ -56,8 +56,9 @@ enum {
                                      lengths differ; blanking: key_words isn't
                                      4, 6 or 8 */
     CAPTIONS_TWIN_KEYS = 2,       /* sealing and checking key are equal */
-    CAPTIONS_WRONG_SPAN = 3,      /* a block or its output isn't 8 bytes, a
-                                     check output isn't 8, a window isn't 192;
+    CAPTIONS_WRONG_SPAN = 3,      /* a block, an array or their output isn't 8
+                                     bytes, a check output isn't 8, a window
+                                     isn't 192;
                                      blanking: slots isn't 1 to 256, or the
                                      sheet isn't CAPTIONS_SHEET(slots) bytes */
     CAPTIONS_UNFIT_SHEET = 4,     /* shorter than 8 bytes, neither edition 1
@@ -77,8 +78,9 @@ enum {
     CAPTIONS_NO_SUCH_DATE = 11,   /* a year, month and day that are no date from
                                      2000-01-01 to 2099-12-31; a day above
                                      CAPTIONS_LAST_DAY */
-    CAPTIONS_NOT_ON_SHOW = 12     /* a dated read before the slot's opening day
+    CAPTIONS_NOT_ON_SHOW = 12,    /* a dated read before the slot's opening day
                                      or after its closing day */
+    CAPTIONS_NO_SUCH_ROUND = 13   /* the bench: a round above CAPTIONS_ROUNDS */
 };
 
 /* The word of each number, for a table of strings:
@@ -87,10 +89,11 @@ enum {
     {                                                                          \
         "accepted", "wrong key", "twin keys", "wrong span", "unfit sheet",     \
             "other key class", "no such slot", "overlong", "worn", "blank",    \
-            "altered", "no such date", "not on show"                           \
+            "altered", "no such date", "not on show", "no such round"          \
     }
 
-#define CAPTIONS_BLOCK 8     /* bytes of a block, and of its output */
+#define CAPTIONS_BLOCK 8     /* bytes of a block, an array or their output */
+#define CAPTIONS_ROUNDS 12   /* the rounds of a block, and the last of them */
 #define CAPTIONS_CHECK 8     /* bytes of a check (CMAC) */
 #define CAPTIONS_HEADER 16   /* bytes of a sheet before its marks */
 #define CAPTIONS_HEADER_1 8  /* the same of a sheet of edition 1 */
@@ -127,6 +130,16 @@ captions_answer captions_decrypt_block(const uint8_t *key, size_t key_len,
                                        const uint8_t *block, size_t block_len,
                                        uint16_t path,
                                        uint8_t *out, size_t out_len);
+
+/* For a bench that tests chips by watching one round: puts into out the one
+ * block that leads to the wanted array after that round of sealing it under the
+ * key. No other block leads there. Round 0 is after the first key addition,
+ * round 12 before the last step (phi). The array is 8 bytes, 16 nibbles row by
+ * row, as a block is. Refusals: WRONG_KEY, WRONG_SPAN, NO_SUCH_ROUND. */
+captions_answer captions_bench_block(const uint8_t *key, size_t key_len,
+                                     size_t round,
+                                     const uint8_t *wanted, size_t wanted_len,
+                                     uint8_t *out, size_t out_len);
 
 /* Puts the check (CMAC) of a message of any length into out.
  * Refusals: WRONG_KEY, WRONG_SPAN. */

@@ -5,16 +5,18 @@ use crate::caption::{self, Source};
 use crate::date;
 use crate::exchange::{self, Import};
 use crate::failure::Failure;
+use crate::hex;
 use crate::input;
-use crate::keys::Keys;
+use crate::keys::{key_of_file, Keys};
 use crate::listing::{self, Verified};
 use crate::sheet_file;
 use crate::shown::shown;
 use crate::terminal::{hint, print};
 use crate::terms::{self, Term};
 use crate::words::{self, wrong_for, Request, Words};
-use captions::{Refusal, FIELD};
+use captions::{Refusal, BLOCK, FIELD};
 use std::ffi::{OsStr, OsString};
+use std::os::unix::ffi::OsStrExt;
 use std::path::Path;
 use std::time::Duration;
 
@@ -54,6 +56,7 @@ fn run_command(name: &str, words: &Words) -> Result<(), Failure> {
         "terms" => terms(file, words),
         "terms-blank" => terms_blank(file, second, words),
         "terms-set" => terms_set(file, second, words),
+        "bench" => bench(file, second, third),
         _ => Err(Failure::Usage(format!("{name} takes no words"))),
     }
 }
@@ -181,6 +184,14 @@ fn terms_set(file: &Path, slot: &OsStr, words: &Words) -> Result<(), Failure> {
     sheet_file::change(file, wait, |sheet| Ok(terms::set(sheet, slot, term)?))
 }
 
+fn bench(key: &Path, round: &OsStr, array: &OsStr) -> Result<(), Failure> {
+    let (round, array) = (number("ROUND", round)?, array_of(array)?);
+    let key = key_of_file(key)?;
+    let mut block = [0; BLOCK];
+    captions::bench_block(&key, round, &array, &mut block)?;
+    print(format!("{}\n", hex::digits_of(&block)).as_bytes())
+}
+
 // ---- Their words ----
 
 /// The term sheet and the date of a dated read; none where it isn't dated.
@@ -215,6 +226,12 @@ fn number(name: &str, word: &OsStr) -> Result<usize, Failure> {
         return Err(Failure::Usage(message));
     }
     Ok(digits.parse().unwrap_or(usize::MAX))
+}
+
+/// An array of hex digits. How many there are is for the library to judge.
+fn array_of(word: &OsStr) -> Result<Vec<u8>, Failure> {
+    let digits = hex::bytes_of(word.as_bytes()).filter(|bytes| !bytes.is_empty());
+    digits.ok_or_else(|| Failure::Usage(format!("ARRAY is 16 hex digits, not {}", shown(word))))
 }
 
 /// A serial: the library takes every one, so one that is no 16-bit number never

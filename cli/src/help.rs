@@ -32,7 +32,7 @@ const WAIT: (&str, &str) = (
     "wait so long for the folder's lock; 30 if not given",
 );
 
-pub const PAGES: [Page; 13] = [
+pub const PAGES: [Page; 14] = [
     Page {
         name: "blank",
         operands: &["FILE", "SLOTS", "BITS", "SERIAL"],
@@ -291,6 +291,24 @@ line (exit status 64): it is nearly always a slip.
         statuses: &[4, 6, 11, 75, 79],
     },
     Page {
+        name: "bench",
+        operands: &["KEYFILE", "ROUND", "ARRAY"],
+        options: &[],
+        instead: None,
+        usage: "KEYFILE ROUND ARRAY",
+        summary: "find the block that leads to an array",
+        about: "\
+For a bench that tests tag chips by watching one round. Prints the one block, 16
+hex digits, that leads to ARRAY after the round ROUND when it is sealed under
+the key in KEYFILE. No other block leads there.
+
+ROUND 0 is after the first key addition, 12 after the last round and before phi,
+the step that ends a sealing. ARRAY has the nibbles of the array row by row, as
+a block has its own.
+",
+        statuses: &[1, 3, 13, 65],
+    },
+    Page {
         name: "help",
         operands: &["COMMAND"],
         options: &[],
@@ -306,14 +324,14 @@ Prints what a command does, or without COMMAND what there is. A command's own
 ];
 
 /// The exit statuses and their meanings. A refusal's begins with its word.
-const STATUSES: [(u8, &str); 19] = [
+const STATUSES: [(u8, &str); 20] = [
     (0, "done"),
     (
         1,
         "wrong key: a key isn't 8, 12 or 16 bytes, or their lengths differ;\nBITS isn't 64, 96 or 128",
     ),
     (2, "twin keys: the two keys are equal"),
-    (3, "wrong span: SLOTS isn't 1 to 256"),
+    (3, "wrong span: SLOTS isn't 1 to 256; ARRAY isn't 8 bytes"),
     (
         4,
         "unfit sheet: FILE isn't a sheet, or a rule of the layout is broken;\nTERMS isn't a term sheet with as many slots",
@@ -338,8 +356,9 @@ const STATUSES: [(u8, &str); 19] = [
         12,
         "not on show: DATE is before the slot's opening or after its closing day",
     ),
+    (13, "no such round: ROUND is above 12"),
     (64, "the command line is wrong"),
-    (65, "KEYS or the table isn't in its form"),
+    (65, "KEYS, KEYFILE or the table isn't in its form"),
     (66, "the input is empty: no caption, or no table"),
     (
         74,
@@ -370,7 +389,7 @@ const OPTIONS: [(&str, &str); 3] = [
     ("--", "the words after it are no options"),
 ];
 
-const OPERANDS: [(&str, &str); 8] = [
+const OPERANDS: [(&str, &str); 11] = [
     (
         "FILE",
         "a sheet or a term sheet; - is standard input where it is only read",
@@ -391,6 +410,12 @@ const OPERANDS: [(&str, &str); 8] = [
         "DATE",
         "a day as YYYY-MM-DD, from 2000-01-01 to 2099-12-31, as are OPENING\nand CLOSING",
     ),
+    (
+        "KEYFILE",
+        "a file with one line of hex digits, a key of 8, 12 or 16 bytes; - is\nstandard input",
+    ),
+    ("ROUND", "a round of mCrypton, 0 to 12"),
+    ("ARRAY", "the nibbles of an array, row by row: 16 hex digits"),
 ];
 
 const NOTES: &str = "

@@ -1,13 +1,15 @@
-//! The file of keys: two lines of hex digits, the sealing and the checking key.
+//! Files of keys: two lines of hex digits, the sealing and the checking key, or
+//! one line, a key for the bench.
 
 use crate::failure::Failure;
+use crate::hex;
 use crate::input::{self, Input};
 use crate::system;
 use crate::terminal::warn;
 use std::os::unix::fs::MetadataExt;
 use std::path::Path;
 
-/// Far above any pair of keys; what is longer isn't read on.
+/// Far above any keys; what is longer isn't read on.
 const MOST_BYTES: usize = 4096;
 
 pub struct Keys {
@@ -18,36 +20,8 @@ pub struct Keys {
 impl Keys {
     /// The keys that a file holds. Their lengths are for the library to judge.
     pub fn of_file(path: &Path) -> Result<Keys, Failure> {
-        let input = input::of_file(path)?;
-        let name = input.name.clone();
-        warn_if_open_to_all(&input);
-        let text = input.bytes(MOST_BYTES + 1)?;
-        // The message gives the line and what is wrong there: no part of a key
-        // is ever shown.
-        Keys::of_text(&text).map_err(|fault| Failure::Data(format!("{name}: {fault}")))
-    }
-
-    fn of_text(text: &[u8]) -> Result<Keys, String> {
-        if text.len() > MOST_BYTES {
-            return Err("too long for two keys".to_string());
-        }
-        if text.is_empty() {
-            return Err("it is empty".to_string());
-        }
-        let text = text.strip_suffix(b"\n").unwrap_or(text);
-        let mut lines = text.split(|byte| *byte == b'\n').zip(1..);
-        let mut next = |key| match lines.next() {
-            Some((line, number)) => {
-                bytes_of_line(line).map_err(|fault| format!("line {number}: {fault}"))
-            }
-            None => Err(format!("no line for the {key} key")),
-        };
-        let (sealing, checking) = (next("sealing")?, next("checking")?);
-        match lines.next() {
-            None => Ok(Keys { sealing, checking }),
-            Some(([], _)) => Err("line 3: an empty line after the two keys".to_string()),
-            Some(_) => Err("line 3: more than two lines".to_string()),
-        }
+        let [sealing, checking] = keys_of_file(path, &PAIR)?;
+        Ok(Keys { sealing, checking })
     }
 
     /// A new pair of keys of this many bytes each, unlike each other.
@@ -68,16 +42,85 @@ impl Keys {
     pub fn text(&self) -> String {
         let mut text = String::new();
         for key in [&self.sealing, &self.checking] {
-            text.extend(key.iter().map(|byte| format!("{byte:02x}")));
+            text += &hex::digits_of(key);
             text.push('\n');
         }
         text
     }
 }
 
+/// The one key that a file holds. Its length is for the library to judge.
+pub fn key_of_file(path: &Path) -> Result<Vec<u8>, Failure> {
+    keys_of_file(path, &SINGLE).map(|[key]| key)
+}
+
+/// What a file of keys holds: a line for each, and what messages call them.
+struct Form<const LINES: usize> {
+    names: [&'static str; LINES],
+    all: &'static str,
+    counted: &'static str,
+    more: &'static str,
+}
+
+const PAIR: Form<2> = Form {
+    names: ["sealing", "checking"],
+    all: "keys",
+    counted: "two keys",
+    more: "more than two lines",
+};
+
+const SINGLE: Form<1> = Form {
+    names: ["one"],
+    all: "key",
+    counted: "one key",
+    more: "more than one line; the bench takes one key",
+};
+
+fn keys_of_file<const LINES: usize>(
+    path: &Path,
+    form: &Form<LINES>,
+) -> Result<[Vec<u8>; LINES], Failure> {
+    let input = input::of_file(path)?;
+    let name = input.name.clone();
+    warn_if_open_to_all(&input, form.all);
+    let text = input.bytes(MOST_BYTES + 1)?;
+    // The message gives the line and what is wrong there: no part of a key
+    // is ever shown.
+    keys_of_text(&text, form).map_err(|fault| Failure::Data(format!("{name}: {fault}")))
+}
+
+fn keys_of_text<const LINES: usize>(
+    text: &[u8],
+    form: &Form<LINES>,
+) -> Result<[Vec<u8>; LINES], String> {
+    if text.len() > MOST_BYTES {
+        return Err(format!("too long for {}", form.counted));
+    }
+    if text.is_empty() {
+        return Err("it is empty".to_string());
+    }
+    let text = text.strip_suffix(b"\n").unwrap_or(text);
+    let mut lines = text.split(|byte| *byte == b'\n').zip(1..);
+    let mut keys = [const { Vec::new() }; LINES];
+    for (key, name) in keys.iter_mut().zip(form.names) {
+        let (line, number) = lines
+            .next()
+            .ok_or_else(|| format!("no line for the {name} key"))?;
+        *key = bytes_of_line(line).map_err(|fault| format!("line {number}: {fault}"))?;
+    }
+    match lines.next() {
+        None => Ok(keys),
+        Some(([], number)) => Err(format!(
+            "line {number}: an empty line after the {}",
+            form.counted
+        )),
+        Some((_, number)) => Err(format!("line {number}: {}", form.more)),
+    }
+}
+
 /// Says so where every user of the machine could learn the keys, or put others
 /// in their place. A group may share them.
-fn warn_if_open_to_all(input: &Input) {
+fn warn_if_open_to_all(input: &Input, keys: &str) {
     let Ok(metadata) = input.file.metadata() else {
         return;
     };
@@ -90,7 +133,7 @@ fn warn_if_open_to_all(input: &Input) {
     };
     let name = &input.name;
     warn(&format!(
-        "{name}: the keys can be {open} by every user: chmod 600 ends that"
+        "{name}: the {keys} can be {open} by every user: chmod 600 ends that"
     ));
 }
 
@@ -109,12 +152,10 @@ fn bytes_of_line(line: &[u8]) -> Result<Vec<u8>, String> {
         };
         return Err(format!("{what} in column {}", place + 1));
     }
-    let (pairs, rest) = line.as_chunks::<2>();
-    if !rest.is_empty() {
+    if line.len() % 2 != 0 {
         return Err(format!("an odd number of hex digits, {}", line.len()));
     }
-    let bytes: Option<Vec<u8>> = pairs.iter().map(byte_of_hex).collect();
-    bytes.ok_or_else(|| "not hex digits".to_string())
+    hex::bytes_of(line).ok_or_else(|| "not hex digits".to_string())
 }
 
 /// What a line begins with that is no key but that people put there.
@@ -126,9 +167,4 @@ fn known_fault(line: &[u8]) -> Option<&'static str> {
         [b'0', b'x' | b'X', ..] => Some("0x before the digits; only the digits can stand there"),
         _ => None,
     }
-}
-
-fn byte_of_hex([high, low]: &[u8; 2]) -> Option<u8> {
-    let digit = |character: u8| char::from(character).to_digit(16);
-    u8::try_from(digit(*high)? * 16 + digit(*low)?).ok()
 }

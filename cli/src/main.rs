@@ -14,6 +14,7 @@ mod escapes;
 mod exchange;
 mod failure;
 mod help;
+mod hex;
 mod input;
 mod keys;
 mod listing;

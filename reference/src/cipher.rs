@@ -119,6 +119,12 @@ pub fn rho(k: RoundKey, a: Array) -> Array {
     sigma(k, tau(pi(gamma(a))))
 }
 
+/// ρ inverse: the steps of ρ undone from its end, σ, τ, π, γ inverse. σ with
+/// the same key, τ and π are their own inverses.
+pub fn rho_inverse(k: RoundKey, a: Array) -> Array {
+    gamma_inverse(pi(tau(sigma(k, a))))
+}
+
 /// ρ', the decryption round: γ inverse, π, τ, σ.
 pub fn rho_prime(k: RoundKey, a: Array) -> Array {
     sigma(k, tau(pi(gamma_inverse(a))))

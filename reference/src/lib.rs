@@ -1,7 +1,7 @@
 //! Second program for mCrypton caption sheets.
 //!
 //! It is written from documents 01 (the scope) and 02 (the change requests, of
-//! them requests 1 to 3), document 000 (the mCrypton paper) and the NIST
+//! them requests 1 to 4), document 000 (the mCrypton paper) and the NIST
 //! standards SP 800-38A (CBC) and SP 800-38B (CMAC) alone, to be read beside
 //! them and compared with, not to be fast.
 //!
@@ -10,6 +10,7 @@
 
 #![forbid(unsafe_code)]
 
+pub mod bench;
 pub mod book;
 pub mod calendar;
 pub mod cipher;
@@ -19,6 +20,7 @@ pub mod sheet;
 pub mod terms;
 pub mod vectors;
 
+pub use bench::{array_after, bench_block};
 pub use book::Book;
 pub use calendar::{date_of_day, day_of_date, DateAnswer, DayAnswer};
 pub use cipher::{decrypt_block, encrypt_block};
@@ -52,7 +54,8 @@ impl Answer {
 pub const WRONG_KEY: u8 = 1;
 /// Sealing and checking key are equal.
 pub const TWIN_KEYS: u8 = 2;
-/// A block, output, window or buffer has the wrong length; blanking: n isn't 1 to 256.
+/// A block, wanted array, output, window or buffer has the wrong length;
+/// blanking: n isn't 1 to 256.
 pub const WRONG_SPAN: u8 = 3;
 /// The sheet is shorter than its header or breaks a rule of the layout; the
 /// term sheet has another n, another length or a day above 36524.
@@ -73,6 +76,8 @@ pub const ALTERED: u8 = 10;
 pub const NO_SUCH_DATE: u8 = 11;
 /// A dated read of a slot that isn't on show on that day.
 pub const NOT_ON_SHOW: u8 = 12;
+/// The bench: the round is above 12.
+pub const NO_SUCH_ROUND: u8 = 13;
 
 /// One test of the table: gives the number when it applies.
 pub(crate) fn refuse_if(applies: bool, number: u8) -> Result<(), u8> {

@@ -1,4 +1,5 @@
-//! Prints vectors, every date, or the listing of a sheet on standard input.
+//! Prints vectors, the arrays after each round of a block, every date, or the
+//! listing of a sheet on standard input.
 
 use reference::listing::MOST_BYTES;
 use reference::{calendar, listing, vectors};
@@ -6,7 +7,8 @@ use std::io::{stdin, stdout, Read, Result, Write};
 use std::process::ExitCode;
 
 const USAGE: &str = "\
-usage: reference vectors blocks|keys|cmac|steps|cbc|sheet
+usage: reference vectors blocks|keys|bench|cmac|steps|cbc|sheet
+       reference rounds KEY BLOCK
        reference dates
        reference list < sheet
 ";
@@ -21,27 +23,35 @@ fn main() -> ExitCode {
         .map(|argument| argument.to_string_lossy().into_owned())
         .collect();
     let words: Vec<&str> = arguments.iter().map(String::as_str).collect();
-    let printed = match words[..] {
-        ["vectors", "blocks"] => print(vectors::blocks().as_bytes()),
-        ["vectors", "keys"] => print(vectors::keys().as_bytes()),
-        ["vectors", "cmac"] => print(vectors::cmacs().as_bytes()),
-        ["vectors", "steps"] => print(vectors::steps().as_bytes()),
-        ["vectors", "cbc"] => print(vectors::cbc().as_bytes()),
-        ["vectors", "sheet"] => print(vectors::sheet().as_bytes()),
-        ["dates"] => print(calendar::all_dates().as_bytes()),
-        ["list"] => list(),
-        _ => {
-            let _ = std::io::stderr().write_all(USAGE.as_bytes());
-            return ExitCode::from(WRONG_USAGE);
-        }
-    };
-    match printed {
-        Ok(()) => ExitCode::SUCCESS,
-        Err(error) => {
+    match run(&words) {
+        Some(Ok(())) => ExitCode::SUCCESS,
+        Some(Err(error)) => {
             let _ = writeln!(std::io::stderr(), "reference: {error}");
             ExitCode::from(FAILED)
         }
+        None => {
+            let _ = std::io::stderr().write_all(USAGE.as_bytes());
+            ExitCode::from(WRONG_USAGE)
+        }
     }
+}
+
+/// Runs a command; none, and nothing printed, for a wrong command line.
+fn run(words: &[&str]) -> Option<Result<()>> {
+    let text = match words {
+        ["vectors", "blocks"] => vectors::blocks(),
+        ["vectors", "keys"] => vectors::keys(),
+        ["vectors", "bench"] => vectors::bench(),
+        ["vectors", "cmac"] => vectors::cmacs(),
+        ["vectors", "steps"] => vectors::steps(),
+        ["vectors", "cbc"] => vectors::cbc(),
+        ["vectors", "sheet"] => vectors::sheet(),
+        ["rounds", key, block] => vectors::rounds(key, block)?,
+        ["dates"] => calendar::all_dates(),
+        ["list"] => return Some(list()),
+        _ => return None,
+    };
+    Some(print(text.as_bytes()))
 }
 
 fn print(text: &[u8]) -> Result<()> {

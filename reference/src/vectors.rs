@@ -1,5 +1,6 @@
 //! The vectors that the program prints, one function for each command.
 
+use crate::bench::{array_after, bench_block};
 use crate::cipher::{decrypt_block, encrypt, encrypt_block, opening_key, sealing_key};
 use crate::cipher::{Block, Register};
 use crate::modes::{cbc_decrypt, cbc_encrypt, cmac, cmac_steps};
@@ -38,6 +39,16 @@ fn hex_or_dash(bytes: &[u8]) -> String {
     } else {
         hex(bytes)
     }
+}
+
+/// The bytes of hex digits in either case; none where there is anything else
+/// or half a byte.
+fn bytes_of_hex(digits: &str) -> Option<Vec<u8>> {
+    let nibble = |digit: char| digit.to_digit(16).map(|value| value as u8);
+    let nibbles: Vec<u8> = digits.chars().map(nibble).collect::<Option<_>>()?;
+    let (pairs, rest) = nibbles.as_chunks::<2>();
+    let bytes = pairs.iter().map(|[high, low]| high << 4 | low);
+    rest.is_empty().then(|| bytes.collect())
 }
 
 /// Key, block, encrypted block, decrypted block.
@@ -80,6 +91,33 @@ pub fn keys() -> String {
         }
     }
     lines
+}
+
+/// t, r, key, wanted array after round r, the block that leads there.
+pub fn bench() -> String {
+    let mut lines = String::new();
+    for t in CLASSES {
+        for r in 0..=cipher::ROUNDS {
+            let key = key(t, r);
+            let wanted = text(r, 8);
+            let mut block = [0; 8];
+            bench_block(&key, r, &wanted, &mut block);
+            lines += &format!("{t} {r} {} {} {}\n", hex(&key), hex(&wanted), hex(&block));
+        }
+    }
+    lines
+}
+
+/// r and the array after round r, for a key and a block in hex digits; none
+/// unless they are a key's and a block's.
+pub fn rounds(key: &str, block: &str) -> Option<String> {
+    let key = bytes_of_hex(key)?;
+    let block = bytes_of_hex(block)?;
+    let mut lines = String::new();
+    for r in 0..=cipher::ROUNDS {
+        lines += &format!("{r} {}\n", hex(&array_after(&key, &block, r)?));
+    }
+    Some(lines)
 }
 
 /// t, length, CMAC.

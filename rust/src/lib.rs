@@ -41,8 +41,10 @@ pub use date::Date;
 use library::Answer;
 pub use refusal::Refusal;
 
-/// The bytes of a block, and of its output.
+/// The bytes of a block or an array, and of an output.
 pub const BLOCK: usize = 8;
+/// The rounds of a block, and the last of them.
+pub const ROUNDS: usize = 12;
 /// The bytes of a check (CMAC).
 pub const CHECK: usize = 8;
 /// The bytes of a sheet before its marks.
@@ -144,6 +146,34 @@ pub fn encrypt_block(key: &[u8], block: &[u8], path: u16, out: &mut [u8]) -> Res
 /// ```
 pub fn decrypt_block(key: &[u8], block: &[u8], path: u16, out: &mut [u8]) -> Result<(), Refusal> {
     done(library::decrypt_block(key, block, path, out))
+}
+
+/// For a bench that tests chips by watching one round: puts into `out`, 8 bytes,
+/// the one block that leads to the `wanted` array after that round of sealing it
+/// under the key. No other block leads there.
+///
+/// Round 0 is after the first key addition, round [`ROUNDS`] before the last
+/// step, φ. The array is 8 bytes, 16 nibbles row by row, as a block is.
+///
+/// # Errors
+///
+/// In the order of the tests: [`Refusal::WrongKey`], [`Refusal::WrongSpan`] and
+/// [`Refusal::NoSuchRound`]; `out` is then as it was.
+///
+/// ```
+/// use captions::{bench_block, Refusal};
+///
+/// let key = [0x0d, 0x2a, 0x47, 0x64, 0x81, 0x9e, 0xbb, 0xd8];
+/// // What the chip is to show after round 5.
+/// let wanted = [0x49, 0x9e, 0xb9, 0x74, 0xeb, 0x56, 0x57, 0xdf];
+/// let mut block = [0; 8];
+/// bench_block(&key, 5, &wanted, &mut block)?;
+/// assert_eq!(block, [0x07, 0x3c, 0x71, 0xa6, 0xdb, 0x10, 0x45, 0x7a]);
+/// assert_eq!(bench_block(&key, 13, &wanted, &mut block), Err(Refusal::NoSuchRound));
+/// # Ok::<(), Refusal>(())
+/// ```
+pub fn bench_block(key: &[u8], round: usize, wanted: &[u8], out: &mut [u8]) -> Result<(), Refusal> {
+    done(library::bench_block(key, round, wanted, out))
 }
 
 /// Puts the check (CMAC) of a message of any length into `out`, 8 bytes.

@@ -49,6 +49,15 @@ mod c {
             out: *mut u8,
             out_len: usize,
         ) -> Answer;
+        pub fn captions_bench_block(
+            key: *const u8,
+            key_len: usize,
+            round: usize,
+            wanted: *const u8,
+            wanted_len: usize,
+            out: *mut u8,
+            out_len: usize,
+        ) -> Answer;
         pub fn captions_cmac(
             key: *const u8,
             key_len: usize,
@@ -136,6 +145,21 @@ pub fn decrypt_block(key: &[u8], block: &[u8], path: u16, out: &mut [u8]) -> Ans
             block.as_ptr(),
             block.len(),
             path,
+            out.as_mut_ptr(),
+            out.len(),
+        )
+    }
+}
+
+pub fn bench_block(key: &[u8], round: usize, wanted: &[u8], out: &mut [u8]) -> Answer {
+    // SAFETY: as at the head of this file.
+    unsafe {
+        c::captions_bench_block(
+            key.as_ptr(),
+            key.len(),
+            round,
+            wanted.as_ptr(),
+            wanted.len(),
             out.as_mut_ptr(),
             out.len(),
         )

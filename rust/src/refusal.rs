@@ -18,9 +18,9 @@ pub enum Refusal {
     WrongKey,
     /// 2: sealing and checking key are equal (read, write).
     TwinKeys,
-    /// 3: a block or its output isn't 8 bytes, a check output isn't 8, a window
-    /// isn't 192; blanking: the slots aren't 1 to 256 or the buffer has another
-    /// length.
+    /// 3: a block, an array or their output isn't 8 bytes, a check output isn't
+    /// 8, a window isn't 192; blanking: the slots aren't 1 to 256 or the buffer
+    /// has another length.
     WrongSpan,
     /// 4: shorter than 8 bytes, or any rule of the layout broken, in any slot; a
     /// term sheet with another slot count than the sheet's, another length or a
@@ -44,13 +44,15 @@ pub enum Refusal {
     NoSuchDate,
     /// 12: a dated read before the slot's opening day or after its closing day.
     NotOnShow,
+    /// 13: the bench, for a round above [`ROUNDS`](crate::ROUNDS).
+    NoSuchRound,
     /// A number that this crate has no word for, shown as "refused". The library
     /// never gives one: this is what stands in for a panic if it did.
     Other(u8),
 }
 
-/// The refusals that have a word, in the order of their numbers, 1 to 12.
-const WORDS: [(Refusal, &str); 12] = [
+/// The refusals that have a word, in the order of their numbers, 1 to 13.
+const WORDS: [(Refusal, &str); 13] = [
     (Refusal::WrongKey, "wrong key"),
     (Refusal::TwinKeys, "twin keys"),
     (Refusal::WrongSpan, "wrong span"),
@@ -63,6 +65,7 @@ const WORDS: [(Refusal, &str); 12] = [
     (Refusal::Altered, "altered"),
     (Refusal::NoSuchDate, "no such date"),
     (Refusal::NotOnShow, "not on show"),
+    (Refusal::NoSuchRound, "no such round"),
 ];
 
 impl Refusal {
@@ -101,6 +104,7 @@ impl Refusal {
             Refusal::Altered => 10,
             Refusal::NoSuchDate => 11,
             Refusal::NotOnShow => 12,
+            Refusal::NoSuchRound => 13,
             Refusal::Other(number) => number,
         }
     }

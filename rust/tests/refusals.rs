@@ -2,7 +2,7 @@
 
 use captions::Refusal;
 
-const WORDS: [&str; 12] = [
+const WORDS: [&str; 13] = [
     "wrong key",
     "twin keys",
     "wrong span",
@@ -15,6 +15,7 @@ const WORDS: [&str; 12] = [
     "altered",
     "no such date",
     "not on show",
+    "no such round",
 ];
 
 #[test]

@@ -64,7 +64,7 @@ impl Random {
 
 /// How often each answer was met, so that a test can see that it met them all.
 #[derive(Default)]
-struct Met([usize; 13]);
+struct Met([usize; 14]);
 
 impl Met {
     /// Compares an answer with the second program's.
@@ -82,9 +82,11 @@ impl Met {
     }
 
     fn all_of(&self, numbers: &[usize]) {
-        let met: Vec<usize> = (0..13).filter(|number| self.0[*number] > 0).collect();
+        let met: Vec<usize> = (0..self.0.len())
+            .filter(|number| self.0[*number] > 0)
+            .collect();
         assert_eq!(met, numbers);
-        println!("answers 0 to 12 met so often: {:?}", self.0);
+        println!("answers from 0 met so often: {:?}", self.0);
     }
 }
 
@@ -111,6 +113,28 @@ fn blocks() {
         assert_eq!(out, expected);
     }
     met.all_of(&[0, 1, 3]);
+}
+
+/// Every round, one above the last and the largest number.
+#[test]
+fn bench() {
+    let mut random = Random(4);
+    let mut met = Met::default();
+    for round in (0..=captions::ROUNDS + 1)
+        .chain([usize::MAX])
+        .cycle()
+        .take(3000)
+    {
+        let (key, wanted, old) = (random.key(), random.block(), random.block());
+        let (mut out, mut expected) = (old.clone(), old);
+        let answer = captions::bench_block(&key, round, &wanted, &mut out).map(|()| 0);
+        met.compare(
+            answer,
+            reference::bench_block(&key, round, &wanted, &mut expected),
+        );
+        assert_eq!(out, expected);
+    }
+    met.all_of(&[0, 1, 3, 13]);
 }
 
 #[test]

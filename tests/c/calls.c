@@ -133,6 +133,49 @@ static void block_refusals(block_call *call)
     CHECK(out[8] == UNTOUCHED);
 }
 
+/* The arrays after rounds 0, 5 and 12 of the block above under the key of 8
+ * bytes, as `reference rounds` prints them. */
+struct bench_case {
+    size_t round;
+    uint8_t array[CAPTIONS_BLOCK];
+};
+
+static const struct bench_case bench_cases[] = {
+    {0, {0x10, 0x58, 0xf7, 0x38, 0x60, 0xe8, 0x48, 0x56}},
+    {5, {0x49, 0x9e, 0xb9, 0x74, 0xeb, 0x56, 0x57, 0xdf}},
+    {CAPTIONS_ROUNDS, {0xe8, 0x19, 0x93, 0xb7, 0xa9, 0x46, 0x3e, 0x0f}},
+};
+
+static void bench(void)
+{
+    const uint8_t *array = bench_cases[0].array;
+    uint8_t out[9];
+    size_t i;
+    memset(out, UNTOUCHED, sizeof out);
+    CHECK(refused(captions_bench_block(sealing, 9, 13, array, 7, out, 7),
+                  CAPTIONS_WRONG_KEY));
+    CHECK(refused(captions_bench_block(sealing, 8, 13, array, 7, out, 8),
+                  CAPTIONS_WRONG_SPAN));
+    CHECK(refused(captions_bench_block(sealing, 8, 13, array, 8, out, 9),
+                  CAPTIONS_WRONG_SPAN));
+    CHECK(refused(captions_bench_block(sealing, 8, CAPTIONS_ROUNDS + 1, array,
+                                       8, out, 8),
+                  CAPTIONS_NO_SUCH_ROUND));
+    CHECK(refused(captions_bench_block(sealing, 8, 255, array, 8, out, 8),
+                  CAPTIONS_NO_SUCH_ROUND));
+    CHECK(refused(captions_bench_block(sealing, 8, (size_t)-1, array, 8, out,
+                                       8),
+                  CAPTIONS_NO_SUCH_ROUND));
+    CHECK(all(out, sizeof out, UNTOUCHED));
+    for (i = 0; i < sizeof bench_cases / sizeof bench_cases[0]; i++) {
+        memset(out, UNTOUCHED, sizeof out);
+        CHECK(accepted(captions_bench_block(sealing, 8, bench_cases[i].round,
+                                            bench_cases[i].array, 8, out, 8)));
+        CHECK(same(out, block, 8));
+        CHECK(out[8] == UNTOUCHED);
+    }
+}
+
 /* Nine bytes under the key of number 9; nothing under the key of number 0. */
 static void checks_by_cmac(void)
 {
@@ -696,13 +739,14 @@ static void listing(void)
 static void words(void)
 {
     static const char *const word[] = CAPTIONS_WORDS;
-    CHECK(sizeof word / sizeof word[0] == CAPTIONS_NOT_ON_SHOW + 1);
+    CHECK(sizeof word / sizeof word[0] == CAPTIONS_NO_SUCH_ROUND + 1);
     CHECK(strcmp(word[CAPTIONS_WRONG_KEY], "wrong key") == 0);
     CHECK(strcmp(word[CAPTIONS_UNFIT_SHEET], "unfit sheet") == 0);
     CHECK(strcmp(word[CAPTIONS_WORN], "worn") == 0);
     CHECK(strcmp(word[CAPTIONS_ALTERED], "altered") == 0);
     CHECK(strcmp(word[CAPTIONS_NO_SUCH_DATE], "no such date") == 0);
     CHECK(strcmp(word[CAPTIONS_NOT_ON_SHOW], "not on show") == 0);
+    CHECK(strcmp(word[CAPTIONS_NO_SUCH_ROUND], "no such round") == 0);
     CHECK(sizeof(captions_answer) == 4);
     CHECK(offsetof(captions_answer, length) == 2);
     CHECK(sizeof(captions_day) == 4 && offsetof(captions_day, day) == 2);
@@ -732,6 +776,7 @@ int main(void)
     blocks_by_every_path();
     block_refusals(captions_encrypt_block);
     block_refusals(captions_decrypt_block);
+    bench();
     checks_by_cmac();
     days_and_dates();
     no_such_dates();

@@ -1,5 +1,6 @@
-/* Prints what `reference vectors blocks`, `cmac` or `sheet` prints, each line
- * made by the library's own calls, so that the two texts can be compared. */
+/* Prints what `reference vectors blocks`, `cmac`, `bench` or `sheet` prints,
+ * each line made by the library's own calls, so that the two texts can be
+ * compared. */
 #include "captions.h"
 
 #include <stdio.h>
@@ -71,6 +72,22 @@ static void cmacs(void)
             captions_cmac(key, 2 * words, message, length, out, 8);
             printf("%lu %lu ", (unsigned long)words, (unsigned long)length);
             print_hex(out, 8, "\n");
+        }
+}
+
+static void bench(void)
+{
+    size_t words, round;
+    for (words = 4; words <= 8; words += 2)
+        for (round = 0; round <= CAPTIONS_ROUNDS; round++) {
+            uint8_t key[16], array[8], block[8];
+            make_key(key, words, round);
+            make_text(array, 8, round);
+            captions_bench_block(key, 2 * words, round, array, 8, block, 8);
+            printf("%lu %lu ", (unsigned long)words, (unsigned long)round);
+            print_hex(key, 2 * words, " ");
+            print_hex(array, 8, " ");
+            print_hex(block, 8, "\n");
         }
 }
 
@@ -205,10 +222,12 @@ int main(int count, char **words)
         blocks();
     } else if (strcmp(kind, "cmac") == 0) {
         cmacs();
+    } else if (strcmp(kind, "bench") == 0) {
+        bench();
     } else if (strcmp(kind, "sheet") == 0) {
         sheets();
     } else {
-        fputs("usage: vectors blocks|cmac|sheet\n", stderr);
+        fputs("usage: vectors blocks|cmac|bench|sheet\n", stderr);
         return 64;
     }
     return fflush(stdout) != 0;

@@ -4,7 +4,7 @@
 use crate::support::*;
 use crate::words;
 
-const COMMANDS: [&str; 13] = [
+const COMMANDS: [&str; 14] = [
     "blank",
     "write",
     "read",
@@ -17,6 +17,7 @@ const COMMANDS: [&str; 13] = [
     "terms",
     "terms-blank",
     "terms-set",
+    "bench",
     "help",
 ];
 
@@ -45,8 +46,8 @@ fn help_as_people_ask_for_it() {
     run(&["help", "open"]).failed(64, "no command open");
     run(&["help", "list", "read"]).failed(64, "help takes one command");
     run(&["list", "--", "--help"]).failed(74, "--help: No such file");
-    assert_eq!(printed(&["--version"]), "captions 0.2.0\n");
-    assert_eq!(printed(&["-V"]), "captions 0.2.0\n");
+    assert_eq!(printed(&["--version"]), "captions 0.3.0\n");
+    assert_eq!(printed(&["-V"]), "captions 0.3.0\n");
 }
 
 /// A section's items: terms, and texts with their lines joined.
@@ -99,13 +100,13 @@ fn help_has_one_form() {
 fn help_has_every_status_and_what_a_sheet_cannot_tell() {
     let all = printed(&["help"]);
     let statuses = items(&all, "Exit status");
-    for number in 1..=12 {
+    for number in 1..=13 {
         let refusal = captions::Refusal::of_number(number).unwrap();
         let (term, text) = &statuses[usize::from(number)];
         assert_eq!(*term, number.to_string());
         assert!(text.starts_with(&format!("{refusal}: ")));
     }
-    let others: Vec<&str> = statuses[13..]
+    let others: Vec<&str> = statuses[14..]
         .iter()
         .map(|(term, _)| term.as_str())
         .collect();

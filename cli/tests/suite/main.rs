@@ -1,6 +1,7 @@
 //! The command, run as at a shell.
 
 mod attributes;
+mod bench;
 mod commands;
 /// The editions, from the second program's tests.
 #[path = "../../../reference/tests/suite/edition.rs"]

@@ -5,7 +5,7 @@ use crate::words;
 use std::fs;
 
 /// Each command with the number of its operands.
-const COMMANDS: [(&str, usize); 12] = [
+const COMMANDS: [(&str, usize); 13] = [
     ("blank", 4),
     ("write", 3),
     ("read", 3),
@@ -18,6 +18,7 @@ const COMMANDS: [(&str, usize); 12] = [
     ("terms", 1),
     ("terms-blank", 2),
     ("terms-set", 4),
+    ("bench", 3),
 ];
 
 #[test]
@@ -29,7 +30,10 @@ fn a_wrong_command_line_is_64() {
     run(&["-"]).failed(64, "no command -");
     run(&["--"]).failed(64, "no command --");
     for (name, operands) in COMMANDS {
-        let usage = format!("usage: captions {name} FILE");
+        let usage = match name {
+            "bench" => "usage: captions bench KEYFILE".to_string(),
+            _ => format!("usage: captions {name} FILE"),
+        };
         for count in (0..6).filter(|count| *count != operands) {
             let mut words = vec![name];
             words.resize(1 + count, "0");

@@ -3,6 +3,7 @@ ghost use mathlib.Core.Path.{_≡_};
 ghost use mathlib.Core.List.{List};
 ghost use Prim.Native.Nat.{ℕ};
 ghost use Rattle.mcrypton.specs.Calls.{blockOutcome, encrypting, decrypting};
+ghost use Rattle.chip_bench.specs.Calls.{benchOutcome, benching};
 ghost use Rattle.modes.specs.Answers.{macOutcome, authenticating};
 ghost use Rattle.captions.specs.Answers.{outcome};
 ghost use Rattle.captions.specs.Captions.{pair};
@@ -47,6 +48,17 @@ fn block_answer(a: mcrypton::BlockAnswer) -> Answer
         mcrypton::BlockAnswer::Accepted => numbered(0),
         mcrypton::BlockAnswer::WrongKey => numbered(1),
         mcrypton::BlockAnswer::WrongSpan => numbered(3),
+    }
+}
+
+fn bench_answer(a: chip_bench::BenchAnswer) -> Answer
+    ensures { λ r. ⌜ ((x : List ℕ) → crossed r x ≡ benchOutcome a x) ⌝ }
+{
+    match a {
+        chip_bench::BenchAnswer::Accepted => numbered(0),
+        chip_bench::BenchAnswer::WrongKey => numbered(1),
+        chip_bench::BenchAnswer::WrongSpan => numbered(3),
+        chip_bench::BenchAnswer::NoSuchRound => numbered(13),
     }
 }
 
@@ -141,6 +153,19 @@ pub extern "C" fn captions_decrypt_block(
 {
     let a = mcrypton::decrypt_block(key, block, path, out);
     block_answer(a)
+}
+
+#[no_mangle]
+pub extern "C" fn captions_bench_block(
+    key: &[u8],
+    round: usize,
+    wanted: &[u8],
+    out: &mut [u8],
+) -> Answer
+    ensures { λ r. ⌜ crossed r (now (out .exit)) ≡ benching (now (key .entry)) round (now (wanted .entry)) (now (out .entry)) ⌝ }
+{
+    let a = chip_bench::bench_block(key, round, wanted, out);
+    bench_answer(a)
 }
 
 #[no_mangle]

@@ -31,7 +31,7 @@ key-words {k} t h = record { count = subst Count (length-words k) (count (length
 block-four : (u : List ℕ) → Words u → length u ≡ 4 → Block u
 block-four u f e = subst Block (by-four u e) (words (f .at 0) (f .at 1) (f .at 2) (f .at 3))
 
-block-words : {b : List ℕ} → Bytes b → length b ≡ 8 → Block (wordsOf b)
+pub block-words : {b : List ℕ} → Bytes b → length b ≡ 8 → Block (wordsOf b)
 block-words {b} t e = block-four (wordsOf b) (words-of t) (four-words b e)
 
 -- four words make 8 bytes

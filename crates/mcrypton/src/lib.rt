@@ -241,7 +241,7 @@ pub fn key_words(k: &[u8]) -> [u16; 8]
 }
 
 // The register of round 0 of a key.
-fn start(k: &[u8]) -> Register
+pub fn start(k: &[u8]) -> Register
     ensures { λ r. ⌜ r ≡ startOf (wordsOf (now (k .entry))) ⌝ }
 {
     Register {

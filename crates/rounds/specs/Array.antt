@@ -71,6 +71,10 @@ abbrev pub σ : List ℕ → List ℕ → List ℕ
 abbrev pub nibbleRound : Direction → List ℕ → List ℕ → List ℕ
 nibbleRound d k a = σ k (τ (π (γ d a)))
 
+-- a round of a direction taken back: σ, τ, π, and γ of the other direction
+abbrev pub inverseRound : Direction → List ℕ → List ℕ → List ℕ
+inverseRound d k a = γ (opposite d) (π (τ (σ k a)))
+
 abbrev pub φ : List ℕ → List ℕ
 φ a = τ (π (τ a))
 

@@ -5,7 +5,7 @@ ghost use lib.ListN.{getD};
 ghost use lib.Bits.{bitAnd};
 ghost use Prim.Native.Nat.{_+_, _*_, _%_, _<_};
 ghost use Rattle.rounds.specs.Word.{rotate as rotated, row, nibble as nibbleOf, xor4};
-ghost use Rattle.rounds.specs.Array.{sboxes, sbox, offset, mask as maskOf, cell, γ, π, τ, σ, φ, nibbleRound, tables, wordRound};
+ghost use Rattle.rounds.specs.Array.{sboxes, sbox, offset, opposite as oppositeOf, mask as maskOf, cell, γ, π, τ, σ, φ, nibbleRound, inverseRound, tables, wordRound};
 
 pub enum Direction {
     Encrypt,
@@ -343,6 +343,22 @@ pub fn nibble_round(d: Direction, k: [u16; 4], a: [u16; 4]) -> [u16; 4]
     ensures { λ r. ⌜ r ≡ nibbleRound d k a ⌝ }
 {
     sigma(k, tau(pi(gamma(d, a))))
+}
+
+fn opposite(d: Direction) -> Direction
+    ensures { λ r. ⌜ r ≡ oppositeOf d ⌝ }
+{
+    match d {
+        Direction::Encrypt => Direction::Decrypt,
+        Direction::Decrypt => Direction::Encrypt,
+    }
+}
+
+// One round of a direction taken back.
+pub fn inverse_round(d: Direction, k: [u16; 4], a: [u16; 4]) -> [u16; 4]
+    ensures { λ r. ⌜ r ≡ inverseRound d k a ⌝ }
+{
+    gamma(opposite(d), pi(tau(sigma(k, a))))
 }
 
 // The masks m_i m_(i+2) m_i m_(i+2), as words.

@@ -1,6 +1,7 @@
 //! The tests of the second program, by the headings of document 01
 //! and the requests of document 02.
 
+mod bench;
 mod blanking;
 mod book;
 mod calendar;

@@ -30,6 +30,7 @@ fn the_program_prints_each_kind_of_vectors() {
     for (kind, text) in [
         ("blocks", blocks()),
         ("keys", keys()),
+        ("bench", bench()),
         ("cmac", cmacs()),
         ("steps", steps()),
         ("cbc", cbc()),
@@ -37,6 +38,71 @@ fn the_program_prints_each_kind_of_vectors() {
     ] {
         assert_eq!(printed(&["vectors", kind], b""), text.as_bytes());
     }
+}
+
+/// The zero key and the block that is its round key 0: by cases F and I of
+/// document 01 the arrays after rounds 0 and 1 are known.
+#[test]
+fn the_program_prints_the_array_after_each_round() {
+    let block = "5000050000500005";
+    for digits in [16, 24, 32] {
+        let key = "0".repeat(digits);
+        let rounds = printed(&["rounds", &key, block], b"");
+        assert!(rounds.starts_with(b"0 0000000000000000\n1 38ea5eea588a58ec\n2 "));
+        assert_eq!(rounds.iter().filter(|byte| **byte == b'\n').count(), 13);
+        let text = reference::vectors::rounds(&key, block).unwrap();
+        assert_eq!(rounds, text.as_bytes());
+    }
+}
+
+#[test]
+fn the_operands_of_rounds_are_taken_in_either_case() {
+    let (key, block) = ("0d2a4764819ebbd8f5122f4c", "abcdef0123456789");
+    let rounds = printed(&["rounds", key, block], b"");
+    let (upper_key, upper_block) = (key.to_uppercase(), block.to_uppercase());
+    assert_eq!(printed(&["rounds", &upper_key, &upper_block], b""), rounds);
+    let mixed = "0D2a4764819eBBd8f5122F4c";
+    assert_eq!(printed(&["rounds", mixed, "aBcDeF0123456789"], b""), rounds);
+    let lower = |byte: &u8| !byte.is_ascii_uppercase();
+    assert!(rounds.iter().all(lower));
+}
+
+/// Each is tried as the key and as the block, with a fine other operand.
+#[test]
+fn wrong_operands_of_rounds_give_usage_and_status_64() {
+    let fine = "0123456789abcdef";
+    let mut wrong = [
+        "",
+        "-",
+        "0x23456789abcdef",
+        "0x0123456789abcdef",
+        "+123456789abcdef",
+        "0123456789abcdeg",
+        "0123456789abcde ",
+        "01234567 89abcdef",
+        "0123456789abcdef\n",
+        "0123456789abcde\u{ff16}",
+        "\u{fffd}123456789abcdef",
+    ]
+    .map(String::from)
+    .to_vec();
+    wrong.extend([1, 2, 14, 15, 17, 18, 22, 23, 25, 26, 30, 31, 33, 34, 528].map(digits));
+    for wrong in &wrong {
+        assert_wrong_usage(&["rounds", wrong, fine]);
+        assert_wrong_usage(&["rounds", fine, wrong]);
+    }
+    // A key's lengths that no block has.
+    assert_wrong_usage(&["rounds", fine, &digits(24)]);
+    assert_wrong_usage(&["rounds", fine, &digits(32)]);
+    assert_wrong_usage(&["rounds"]);
+    assert_wrong_usage(&["rounds", fine]);
+    assert_wrong_usage(&["rounds", fine, fine, fine]);
+    assert_wrong_usage(&["rounds", fine, fine, ""]);
+}
+
+/// A number of hex digits.
+fn digits(count: usize) -> String {
+    "7".repeat(count)
 }
 
 #[test]
@@ -82,15 +148,22 @@ fn anything_else_gives_usage_and_status_64() {
         &["vectors", "all"],
         &["vectors", "blocks", "keys"],
         &["vectors", "steps", "4"],
+        &["vectors", "bench", "4"],
+        &["vectors", "rounds"],
         &["steps"],
+        &["bench"],
         &["list", "file"],
         &["dates", "2000"],
         &["Vectors", "blocks"],
         &["--help"],
     ] {
-        let output = run(arguments, b"");
-        assert_eq!(output.status.code(), Some(64));
-        assert!(output.stdout.is_empty());
-        assert!(output.stderr.starts_with(b"usage: reference "));
+        assert_wrong_usage(arguments);
     }
+}
+
+fn assert_wrong_usage(arguments: &[&str]) {
+    let output = run(arguments, b"");
+    assert_eq!(output.status.code(), Some(64), "{arguments:?}");
+    assert!(output.stdout.is_empty());
+    assert!(output.stderr.starts_with(b"usage: reference "));
 }

@@ -59,6 +59,55 @@ fn keys() {
     }
 }
 
+/// Round 0 of key number 0, worked by hand: word 0 is 0d2a, whose S step is
+/// 4637, so T is 5726, and sealing key 0 is 1764 869e bbf8, then 0d2a (t = 4) or
+/// word 4, f512, each exclusive or 0006. The array is 073c 71a6 db10 457a.
+#[test]
+fn bench() {
+    let text = vectors::bench();
+    let lines = lines(&text);
+    assert_eq!(lines.len(), 3 * 13);
+    for (place, line) in lines.iter().enumerate() {
+        let (t, r) = (CLASSES[place / 13], place % 13);
+        let key = numbered_key(t, r);
+        let wanted = numbered_text(r, 8);
+        assert_eq!(line.len(), 5);
+        assert_eq!(line[..2], [t.to_string(), r.to_string()]);
+        assert_eq!(line[2].len(), 4 * t);
+        assert_eq!(line[3].len(), 16);
+        assert_eq!(line[4].len(), 16);
+        assert_eq!((hex(line[2]), hex(line[3])), (key.clone(), wanted.clone()));
+        let array = reference::array_after(&key, &hex_block(line[4]), r);
+        assert_eq!(array.map(Vec::from), Some(wanted));
+    }
+    assert_eq!(lines[0][2..4], ["0d2a4764819ebbd8", "073c71a6db10457a"]);
+    assert_eq!(lines[0][4], "1058f73860e84856");
+    assert_eq!(lines[13][4], "1058f73860e8b06e");
+    assert_eq!(lines[26][4], "1058f73860e8b06e");
+}
+
+#[test]
+fn rounds_of_the_benched_blocks_have_the_wanted_arrays() {
+    let text = vectors::bench();
+    for line in lines(&text) {
+        let [_, r, key, wanted, block] = line[..] else {
+            panic!("{line:?}");
+        };
+        let printed = vectors::rounds(key, block).unwrap();
+        let rounds = lines(&printed);
+        assert_eq!(rounds.len(), 13);
+        assert_eq!(rounds[r.parse::<usize>().unwrap()], [r, wanted]);
+        for (r, round) in rounds.iter().enumerate() {
+            let array = reference::array_after(&hex(key), &hex(block), r).unwrap();
+            assert_eq!(round.len(), 2);
+            assert_eq!(round[0], r.to_string());
+            assert_eq!(hex_block(round[1]), array);
+        }
+        let upper_case = vectors::rounds(&key.to_uppercase(), &block.to_uppercase());
+        assert_eq!(upper_case, Some(printed.clone()));
+    }
+}
+
 #[test]
 fn cmacs() {
     let text = vectors::cmacs();

@@ -24,7 +24,7 @@ pub struct Both {
     pub label: String,
     pub calls: u64,
     /// How often each number was answered.
-    pub numbers: [u64; 13],
+    pub numbers: [u64; 14],
     pub listings: u64,
 }
 
@@ -34,7 +34,7 @@ impl Both {
             place,
             label: label.to_string(),
             calls: 0,
-            numbers: [0; 13],
+            numbers: [0; 14],
             listings: 0,
         }
     }
@@ -71,6 +71,35 @@ impl Both {
         self.hold_answer(call, ours, theirs);
         self.hold_bytes(call, "key", &lent_key, key);
         self.hold_bytes(call, "block", &lent_block, block);
+        self.hold_bytes(call, "output", &lent_out, &true_out);
+        (ours, true_out)
+    }
+
+    /// The bench: its answer, and the output after it.
+    pub fn bench(
+        &mut self,
+        key: &[u8],
+        round: usize,
+        wanted: &[u8],
+        out: &[u8],
+    ) -> (Answer, Vec<u8>) {
+        let call = || {
+            let out = out.len();
+            format!("bench key {key:02x?} round {round} array {wanted:02x?} output of {out}")
+        };
+        let mut true_out = out.to_vec();
+        let theirs = reference::bench_block(key, round, wanted, &mut true_out);
+        let (lent_key, lent_wanted, mut lent_out) =
+            (self.lend(key), self.lend(wanted), self.lend(out));
+        let ours = library::bench_block(
+            lent_key.bytes(),
+            round,
+            lent_wanted.bytes(),
+            lent_out.bytes_mut(),
+        );
+        self.hold_answer(call, ours, theirs);
+        self.hold_bytes(call, "key", &lent_key, key);
+        self.hold_bytes(call, "array", &lent_wanted, wanted);
         self.hold_bytes(call, "output", &lent_out, &true_out);
         (ours, true_out)
     }

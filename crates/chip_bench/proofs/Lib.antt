@@ -1,0 +1,4 @@
+pub mod Walk
+pub mod Leads
+pub mod Calls
+pub mod Laws
