@@ -1,5 +1,6 @@
 /* CMAC, read and write by the library before and after a change, by turns.
- * bench/beside builds it: the functions before_... are the earlier library's. */
+ * bench/beside builds it: the functions before_... are the earlier library's, and
+ * BEFORE is the answer that its read and write give. */
 #define _POSIX_C_SOURCE 199309L
 #include "captions.h"
 #include <stdio.h>
@@ -8,9 +9,9 @@
 #include <time.h>
 
 captions_answer before_captions_cmac(const uint8_t *, size_t, const uint8_t *, size_t, uint8_t *, size_t);
-captions_answer before_captions_read(const uint8_t *, size_t, const uint8_t *, size_t, const uint8_t *, size_t,
+BEFORE before_captions_read(const uint8_t *, size_t, const uint8_t *, size_t, const uint8_t *, size_t,
                                      size_t, uint8_t *, size_t);
-captions_answer before_captions_write(const uint8_t *, size_t, const uint8_t *, size_t, uint8_t *, size_t, size_t,
+BEFORE before_captions_write(const uint8_t *, size_t, const uint8_t *, size_t, uint8_t *, size_t, size_t,
                                       const uint8_t *, size_t);
 
 enum { ROUNDS = 301, FULL = 53256 };
@@ -20,23 +21,33 @@ static size_t key, length, slots, bytes;
 
 typedef captions_answer call(void);
 
+static captions_answer plain(int number, int value)
+{
+    captions_answer answer = {(uint8_t)number, (uint16_t)value};
+    return answer;
+}
+
 static captions_answer cmac_before(void) { return before_captions_cmac(sealing, key, text, length, out, 8); }
 static captions_answer cmac_after(void) { return captions_cmac(sealing, key, text, length, out, 8); }
 static captions_answer read_before(void)
 {
-    return before_captions_read(sealing, 16, checking, 16, sheet, bytes, slots - 1, out, 192);
+    BEFORE answer = before_captions_read(sealing, 16, checking, 16, sheet, bytes, slots - 1, out, 192);
+    return plain(answer.number, answer.length);
 }
 static captions_answer read_after(void)
 {
-    return captions_read(sealing, 16, checking, 16, sheet, bytes, slots - 1, out, 192);
+    captions_pointed answer = captions_read(sealing, 16, checking, 16, sheet, bytes, slots - 1, out, 192);
+    return plain(answer.number, answer.length);
 }
 static captions_answer write_before(void)
 {
-    return before_captions_write(sealing, 16, checking, 16, sheet, bytes, slots - 1, text, 192);
+    BEFORE answer = before_captions_write(sealing, 16, checking, 16, sheet, bytes, slots - 1, text, 192);
+    return plain(answer.number, answer.length);
 }
 static captions_answer write_after(void)
 {
-    return captions_write(sealing, 16, checking, 16, sheet, bytes, slots - 1, text, 192);
+    captions_pointed answer = captions_write(sealing, 16, checking, 16, sheet, bytes, slots - 1, text, 192);
+    return plain(answer.number, answer.length);
 }
 
 /* Both are accepted, with the same length and the same bytes in out. */

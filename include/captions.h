@@ -32,6 +32,44 @@ typedef struct {
     uint16_t length;
 } captions_answer;
 
+/* What a read, dated or not, and a write answer: beside number and length the
+ * rule that gave CAPTIONS_UNFIT_SHEET or CAPTIONS_ALTERED, one of those below;
+ * with every other number rule, slot and place are 0. */
+typedef struct {
+    uint8_t number;
+    uint8_t rule;
+    uint16_t length;
+    uint16_t slot;  /* with rules 7 to 11 the slot, else 0 */
+    uint16_t place; /* with rule 5 the byte of the header, 10 to 15, with rule 9
+                       the byte of the mark, 6 or 7, with rule 11 the byte of
+                       the field, 0 to 191, else 0 */
+} captions_pointed;
+
+/* The rules, in the order in which a sheet is held to them: it answers the
+ * first that is broken, the header's before the slots', a lower slot's before a
+ * higher one's, and of a rule that several bytes break the lowest byte. Bytes
+ * of the header that a short sheet lacks break rule 6 alone. */
+enum {
+    CAPTIONS_RULE_NONE = 0,
+    CAPTIONS_RULE_SHORT = 1,       /* under 8 bytes */
+    CAPTIONS_RULE_SLOTS = 2,       /* bytes 0 and 1: not 1 to 256 slots */
+    CAPTIONS_RULE_KEY_WORDS = 3,   /* byte 2: not 4, 6 or 8 */
+    CAPTIONS_RULE_EDITION = 4,     /* byte 3: not 1 or 2 */
+    CAPTIONS_RULE_HEADER_BYTE = 5, /* edition 2: a byte from 10 to 15 that isn't
+                                      zero */
+    CAPTIONS_RULE_LENGTH = 6,      /* another length than so many slots have */
+    CAPTIONS_RULE_NUMBER = 7,      /* a slot that isn't all zero: a write number
+                                      of 0, or above the sheet's last */
+    CAPTIONS_RULE_CAPTION = 8,     /* a slot: a caption length above 192 */
+    CAPTIONS_RULE_MARK_BYTE = 9,   /* a slot: byte 6 or 7 of its mark isn't
+                                      zero */
+    CAPTIONS_RULE_CHECK = 10,      /* CAPTIONS_ALTERED: the check differs */
+    CAPTIONS_RULE_BYTE = 11,       /* CAPTIONS_ALTERED: the check agrees, and
+                                      place is the first opened byte at or past
+                                      the caption's length that isn't zero */
+    CAPTIONS_RULE_TERMS = 12       /* the term sheet, where the sheet is fit */
+};
+
 /* What a conversion answers: number is CAPTIONS_ACCEPTED or
  * CAPTIONS_NO_SUCH_DATE, and then all else is 0. Day 0 is a true answer too, so
  * that only the number tells. */
@@ -163,10 +201,11 @@ captions_answer captions_blank(uint8_t *sheet, size_t sheet_len,
  * what the slot held. One pair of keys serves a sheet.
  * Refusals: WRONG_KEY, TWIN_KEYS, UNFIT_SHEET, OTHER_KEY_CLASS, NO_SUCH_SLOT,
  * OVERLONG, WORN. */
-captions_answer captions_write(const uint8_t *sealing_key, size_t sealing_len,
-                               const uint8_t *checking_key, size_t checking_len,
-                               uint8_t *sheet, size_t sheet_len, size_t slot,
-                               const uint8_t *caption, size_t caption_len);
+captions_pointed captions_write(const uint8_t *sealing_key, size_t sealing_len,
+                                const uint8_t *checking_key,
+                                size_t checking_len,
+                                uint8_t *sheet, size_t sheet_len, size_t slot,
+                                const uint8_t *caption, size_t caption_len);
 
 /* Makes a slot blank; a blank one stays blank.
  * Refusals: UNFIT_SHEET, NO_SUCH_SLOT. */
@@ -177,11 +216,11 @@ captions_answer captions_clear(uint8_t *sheet, size_t sheet_len, size_t slot);
  * the window zero.
  * Refusals: WRONG_KEY, TWIN_KEYS, WRONG_SPAN, UNFIT_SHEET, OTHER_KEY_CLASS,
  * NO_SUCH_SLOT, BLANK, ALTERED. */
-captions_answer captions_read(const uint8_t *sealing_key, size_t sealing_len,
-                              const uint8_t *checking_key, size_t checking_len,
-                              const uint8_t *sheet, size_t sheet_len,
-                              size_t slot,
-                              uint8_t *window, size_t window_len);
+captions_pointed captions_read(const uint8_t *sealing_key, size_t sealing_len,
+                               const uint8_t *checking_key, size_t checking_len,
+                               const uint8_t *sheet, size_t sheet_len,
+                               size_t slot,
+                               uint8_t *window, size_t window_len);
 
 /* The day of a date of the Gregorian calendar, and the date of a day.
  * Refusal: NO_SUCH_DATE. */
@@ -193,7 +232,7 @@ captions_date captions_date_of_day(size_t day);
  * Refusals: WRONG_KEY, TWIN_KEYS, WRONG_SPAN, UNFIT_SHEET (the sheet, then the
  * term sheet), OTHER_KEY_CLASS, NO_SUCH_DATE, NO_SUCH_SLOT, BLANK, NOT_ON_SHOW,
  * ALTERED. */
-captions_answer captions_dated_read(
+captions_pointed captions_dated_read(
     const uint8_t *sealing_key, size_t sealing_len,
     const uint8_t *checking_key, size_t checking_len,
     const uint8_t *sheet, size_t sheet_len,

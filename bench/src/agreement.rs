@@ -103,7 +103,7 @@ fn sheets<S: Style>(random: &mut Random) -> u64 {
                     let (sealing, checking) = (&keys.sealing, &keys.checking);
                     (
                         baseline::write::<S>(sealing, checking, ours, slot, &caption),
-                        reference::write(sealing, checking, theirs, slot, &caption),
+                        reference::write(sealing, checking, theirs, slot, &caption).answer(),
                     )
                 };
                 assert_eq!(answers.0, answers.1);
@@ -122,7 +122,7 @@ fn compare_reads<S: Style>(keys: &Keys, sheet: &[u8], slot: usize) -> Answer {
     let (sealing, checking) = (&keys.sealing, &keys.checking);
     let answer = baseline::read::<S>(sealing, checking, sheet, slot, &mut windows[0]);
     let true_answer = reference::read(sealing, checking, sheet, slot, &mut windows[1]);
-    assert_eq!(answer, true_answer, "a read of slot {slot}");
+    assert_eq!(answer, true_answer.answer(), "a read of slot {slot}");
     assert_eq!(windows[0], windows[1], "a read of slot {slot}");
     answer
 }
@@ -144,7 +144,7 @@ fn compare_dated_reads<S: Style>(random: &mut Random, own: &Keys, sheet: &[u8], 
     let (sealing, checking) = (&keys.sealing, &keys.checking);
     assert_eq!(
         baseline::dated_read::<S>(sealing, checking, sheet, &terms, slot, day, ours),
-        reference::dated_read(sealing, checking, sheet, &terms, slot, day, theirs),
+        reference::dated_read(sealing, checking, sheet, &terms, slot, day, theirs).answer(),
         "a read of slot {slot} on day {day}, terms {terms:02x?}"
     );
     assert_eq!(ours, theirs, "a read of slot {slot} on day {day}");

@@ -15,7 +15,7 @@ use differential::random::Random;
 use differential::sheets::{set_last_number, Keys, CLASSES, FIELD};
 use differential::term_sheet::{term_sheet, ALWAYS, LAST_DAY};
 use meter::{figure, Aims, Meter};
-use reference::Answer;
+use reference::{Answer, Pointed};
 use std::hint::black_box;
 use timing::{timed, Timed, ROUNDS, SAMPLE};
 
@@ -233,70 +233,92 @@ fn fill(random: &mut Random, keys: &Keys, sheet: &mut [u8], n: usize) {
     }
 }
 
-fn reads(keys: &Keys, sheet: &[u8], n: usize) -> Vec<Timed<'static>> {
-    [
-        library::read,
-        baseline::read::<Looped>,
-        baseline::read::<SameIdeas>,
-        reference::read,
-    ]
-    .map(|read| {
-        let (keys, sheet) = (keys.clone(), sheet.to_vec());
-        let mut window = [0; FIELD];
-        timed(move || {
-            let (keys, sheet) = black_box((&keys, &sheet));
-            let window = black_box(&mut window);
-            read(&keys.sealing, &keys.checking, sheet, n - 1, window)
-        })
-    })
-    .into()
+/// The baseline's answer in the library's form. It looks for no rule where it
+/// refuses; no refused call is timed but the layout test alone.
+#[inline]
+fn pointed(answer: Answer) -> Pointed {
+    Pointed {
+        number: answer.number,
+        rule: 0,
+        length: answer.length,
+        slot: 0,
+        place: 0,
+    }
 }
+
+type Read = fn(&[u8], &[u8], &[u8], usize, &mut [u8]) -> Pointed;
+
+fn reads(keys: &Keys, sheet: &[u8], n: usize) -> Vec<Timed<'static>> {
+    let reads: [Read; 4] = [
+        library::read,
+        |k, m, s, i, w| pointed(baseline::read::<Looped>(k, m, s, i, w)),
+        |k, m, s, i, w| pointed(baseline::read::<SameIdeas>(k, m, s, i, w)),
+        reference::read,
+    ];
+    reads
+        .map(|read| {
+            let (keys, sheet) = (keys.clone(), sheet.to_vec());
+            let mut window = [0; FIELD];
+            timed(move || {
+                let (keys, sheet) = black_box((&keys, &sheet));
+                let window = black_box(&mut window);
+                read(&keys.sealing, &keys.checking, sheet, n - 1, window)
+            })
+        })
+        .into()
+}
+
+type DatedRead = fn(&[u8], &[u8], &[u8], &[u8], usize, usize, &mut [u8]) -> Pointed;
 
 fn dated_reads(keys: &Keys, sheet: &[u8], n: usize) -> Vec<Timed<'static>> {
     let terms = term_sheet(&vec![ALWAYS; n]);
-    [
+    let reads: [DatedRead; 4] = [
         library::dated_read,
-        baseline::dated_read::<Looped>,
-        baseline::dated_read::<SameIdeas>,
+        |k, m, s, t, i, d, w| pointed(baseline::dated_read::<Looped>(k, m, s, t, i, d, w)),
+        |k, m, s, t, i, d, w| pointed(baseline::dated_read::<SameIdeas>(k, m, s, t, i, d, w)),
         reference::dated_read,
-    ]
-    .map(|read| {
-        let (keys, sheet, terms) = (keys.clone(), sheet.to_vec(), terms.clone());
-        let mut window = [0; FIELD];
-        timed(move || {
-            let (keys, sheet, terms) = black_box((&keys, &sheet, &terms));
-            let (day, window) = black_box((LAST_DAY, &mut window));
-            read(
-                &keys.sealing,
-                &keys.checking,
-                sheet,
-                terms,
-                n - 1,
-                day,
-                window,
-            )
+    ];
+    reads
+        .map(|read| {
+            let (keys, sheet, terms) = (keys.clone(), sheet.to_vec(), terms.clone());
+            let mut window = [0; FIELD];
+            timed(move || {
+                let (keys, sheet, terms) = black_box((&keys, &sheet, &terms));
+                let (day, window) = black_box((LAST_DAY, &mut window));
+                read(
+                    &keys.sealing,
+                    &keys.checking,
+                    sheet,
+                    terms,
+                    n - 1,
+                    day,
+                    window,
+                )
+            })
         })
-    })
-    .into()
+        .into()
 }
+
+type Write = fn(&[u8], &[u8], &mut [u8], usize, &[u8]) -> Pointed;
 
 fn writes(keys: &Keys, sheet: &[u8], n: usize) -> Vec<Timed<'static>> {
     let caption = [0x41; FIELD];
-    [
+    let writes: [Write; 4] = [
         library::write,
-        baseline::write::<Looped>,
-        baseline::write::<SameIdeas>,
+        |k, m, s, i, c| pointed(baseline::write::<Looped>(k, m, s, i, c)),
+        |k, m, s, i, c| pointed(baseline::write::<SameIdeas>(k, m, s, i, c)),
         reference::write,
-    ]
-    .map(|write| {
-        let (keys, mut sheet) = (keys.clone(), sheet.to_vec());
-        timed(move || {
-            let (keys, sheet) = black_box((&keys, &mut sheet));
-            let caption = black_box(&caption);
-            write(&keys.sealing, &keys.checking, sheet, n - 1, caption)
+    ];
+    writes
+        .map(|write| {
+            let (keys, mut sheet) = (keys.clone(), sheet.to_vec());
+            timed(move || {
+                let (keys, sheet) = black_box((&keys, &mut sheet));
+                let caption = black_box(&caption);
+                write(&keys.sealing, &keys.checking, sheet, n - 1, caption)
+            })
         })
-    })
-    .into()
+        .into()
 }
 
 /// From the second time on the last slot is blank already, which is the same

@@ -14,7 +14,7 @@ use crate::shown::shown;
 use crate::terminal::{hint, print};
 use crate::terms::{self, Term};
 use crate::words::{self, wrong_for, Request, Words};
-use captions::{Refusal, BLOCK, FIELD};
+use captions::{Change, Refusal, BLOCK, FIELD};
 use std::ffi::{OsStr, OsString};
 use std::os::unix::ffi::OsStrExt;
 use std::path::Path;
@@ -129,7 +129,7 @@ fn verify(file: &Path, keys: &Path, words: &Words) -> Result<(), Failure> {
     print(report.as_bytes())?;
     match verified.altered() {
         0 => Ok(()),
-        _ => Err(Refusal::Altered.into()),
+        _ => Err(Refusal::Altered(Change::Unnamed).into()),
     }
 }
 

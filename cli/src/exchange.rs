@@ -7,7 +7,7 @@ use crate::listing::Listing;
 use crate::sheet_file;
 use crate::table::{self, Row};
 use crate::terminal::{print, prompt, warn};
-use captions::{Refusal, FIELD};
+use captions::{Change, Refusal, FIELD};
 use std::path::Path;
 use std::time::Duration;
 
@@ -24,17 +24,19 @@ pub fn export(file: &Path, keys: &Path) -> Result<(), Failure> {
     for slot in 0..slots {
         match caption_in(&sheet, &keys, slot) {
             Ok(caption) => text += &format!("{slot}\t{}\n", table::text_of(caption.as_deref())),
-            Err(Refusal::Altered) => altered.push(slot),
+            Err(Refusal::Altered(change)) => altered.push((slot, change)),
             Err(refusal) => return Err(refusal.into()),
         }
     }
     print(text.as_bytes())?;
-    for slot in &altered {
-        warn(&format!("slot {slot} is altered and not in the table"));
+    for (slot, change) in &altered {
+        warn(&format!(
+            "slot {slot} is altered and not in the table: {change}"
+        ));
     }
     match altered.is_empty() {
         true => Ok(()),
-        false => Err(Refusal::Altered.into()),
+        false => Err(Refusal::Altered(Change::Unnamed).into()),
     }
 }
 
@@ -115,7 +117,7 @@ fn changed(
 ) -> Result<String, Failure> {
     // Keys or a sheet that can't be used at all are no line's fault.
     match caption_in(sheet, keys, 0) {
-        Ok(_) | Err(Refusal::Altered) => {}
+        Ok(_) | Err(Refusal::Altered(_)) => {}
         Err(refusal) => return Err(refusal.into()),
     }
     let (mut report, mut writes, mut clears) = (String::new(), 0, 0);

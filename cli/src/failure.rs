@@ -64,13 +64,18 @@ impl Failure {
     }
 
     /// The lines for standard error. A refusal's last line is its number and
-    /// word alone, so that a script can take it as it is.
+    /// word alone, so that a script can take it as it is; where the refusal
+    /// points at a rule, the line before it says which.
     pub fn message(&self) -> String {
         match self {
-            Failure::Refused(refusal) => format!("{} {refusal}\n", refusal.number()),
-            Failure::RefusedAt(place, refusal) => {
-                format!("captions: {place}\n{} {refusal}\n", refusal.number())
-            }
+            Failure::Refused(refusal) => match points(refusal) {
+                true => format!("captions: {refusal}\n{}", last_line(refusal)),
+                false => last_line(refusal),
+            },
+            Failure::RefusedAt(place, refusal) => match points(refusal) {
+                true => format!("captions: {place}: {refusal}\n{}", last_line(refusal)),
+                false => format!("captions: {place}\n{}", last_line(refusal)),
+            },
             Failure::Usage(text)
             | Failure::Data(text)
             | Failure::NoInput(text)
@@ -79,6 +84,15 @@ impl Failure {
             | Failure::NotFlushed(text) => format!("captions: {text}\n"),
         }
     }
+}
+
+/// Whether a refusal says more than its word.
+fn points(refusal: &Refusal) -> bool {
+    refusal.to_string() != refusal.word()
+}
+
+fn last_line(refusal: &Refusal) -> String {
+    format!("{} {}\n", refusal.number(), refusal.word())
 }
 
 impl From<Refusal> for Failure {

@@ -146,8 +146,10 @@ sheet doesn't have is null.
         summary: "try every slot",
         about: "\
 Reads every slot and prints a line for each: its number and \"sound\" with the
-caption's length, \"blank\" or \"altered\". The last line counts them:
+caption's length, \"blank\", or \"altered\" with what differs, the check or else a
+byte behind the caption. The last line counts them:
 
+    1 altered: the check differs
     slots 3 sound 1 blank 1 altered 1
 
 The exit status is 0 if no slot is altered, else 10. Keys or a sheet that can't
@@ -157,8 +159,9 @@ write number with one that you noted elsewhere.
 
 With --json it prints an object with the members slots, key, last, sound, blank,
 altered and list; list has an object for each slot, with the members slot, state
-(\"sound\", \"blank\" or \"altered\"), write and length. Write number and length of a
-slot that isn't sound are null.
+(\"sound\", \"blank\" or \"altered\"), write, length and reason. Write number and
+length of a slot that isn't sound are null; reason is what differs in an altered
+slot, else null.
 ",
         statuses: &[1, 2, 4, 5, 10, 65],
     },
@@ -334,7 +337,7 @@ const STATUSES: [(u8, &str); 20] = [
     (3, "wrong span: SLOTS isn't 1 to 256; ARRAY isn't 8 bytes"),
     (
         4,
-        "unfit sheet: FILE isn't a sheet, or a rule of the layout is broken;\nTERMS isn't a term sheet with as many slots",
+        "unfit sheet: FILE isn't a sheet, or a rule of the layout is broken,\nwhich the line before says; TERMS isn't a term sheet with as many slots",
     ),
     (
         5,

@@ -2,7 +2,7 @@
 //! listing says.
 
 use crate::keys::Keys;
-use captions::{Refusal, FIELD};
+use captions::{Change, Fault, Refusal, FIELD};
 
 /// The library's listing, taken apart.
 pub struct Listing {
@@ -68,6 +68,14 @@ fn slot_json(slot: usize, state: &str, mark: Option<(u32, u32)>) -> String {
     format!(r#"{{"slot":{slot},"state":"{state}","write":{write},"length":{length}}}"#)
 }
 
+/// A slot's object with what is altered as one more member. The words have no
+/// character that JSON would escape.
+fn with_reason(slot: String, change: Option<&Change>) -> String {
+    let reason = change.map_or("null".to_string(), |change| format!("\"{change}\""));
+    let members = slot.trim_end_matches('}');
+    format!(r#"{members},"reason":{reason}}}"#)
+}
+
 /// An object with the member `list` as its last, each slot on a line.
 pub fn with_list(header: &str, slots: Vec<String>) -> String {
     format!("{header},\"list\":[\n{}\n]}}\n", slots.join(",\n"))
@@ -78,7 +86,7 @@ pub fn with_list(header: &str, slots: Vec<String>) -> String {
 pub enum State {
     Sound(usize),
     Blank,
-    Altered,
+    Altered(Change),
 }
 
 /// A sheet of which every slot was read.
@@ -99,11 +107,11 @@ impl Verified {
             states.push(match read {
                 Ok(length) => State::Sound(length),
                 Err(Refusal::Blank) => State::Blank,
-                Err(Refusal::Altered) => State::Altered,
+                Err(Refusal::Altered(change)) => State::Altered(change),
                 Err(refusal) => return Err(refusal),
             });
         }
-        let listing = listing.ok_or(Refusal::UnfitSheet)?;
+        let listing = listing.ok_or(Refusal::UnfitSheet(Fault::Unnamed))?;
         Ok(Verified { listing, states })
     }
 
@@ -121,7 +129,7 @@ impl Verified {
     }
 
     pub fn altered(&self) -> usize {
-        self.count(|state| *state == State::Altered)
+        self.count(|state| matches!(state, State::Altered(_)))
     }
 
     pub fn text(&self) -> String {
@@ -130,7 +138,7 @@ impl Verified {
             report += &match state {
                 State::Sound(length) => format!("{slot} sound {length}\n"),
                 State::Blank => format!("{slot} blank\n"),
-                State::Altered => format!("{slot} altered\n"),
+                State::Altered(change) => format!("{slot} altered: {change}\n"),
             };
         }
         let (slots, [sound, blank, altered]) = (self.states.len(), self.counts());
@@ -147,9 +155,9 @@ impl Verified {
         );
         let states = self.states.iter().zip(&self.listing.marks).enumerate();
         let slots = states.map(|(slot, (state, mark))| match state {
-            State::Sound(_) => slot_json(slot, "sound", *mark),
-            State::Blank => slot_json(slot, "blank", None),
-            State::Altered => slot_json(slot, "altered", None),
+            State::Sound(_) => with_reason(slot_json(slot, "sound", *mark), None),
+            State::Blank => with_reason(slot_json(slot, "blank", None), None),
+            State::Altered(change) => with_reason(slot_json(slot, "altered", None), Some(change)),
         });
         with_list(&header, slots.collect())
     }

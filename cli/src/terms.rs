@@ -4,7 +4,7 @@
 
 use crate::blank_sheet::blank_sheet;
 use crate::listing::with_list;
-use captions::{date_of_day, Date, Refusal, FIELD, LAST_DAY};
+use captions::{date_of_day, Date, Fault, Refusal, FIELD, LAST_DAY};
 
 /// When a slot is on show.
 #[derive(Clone, Copy)]
@@ -101,7 +101,7 @@ fn numbers(sheet: &[u8]) -> impl Iterator<Item = u16> + Clone + '_ {
 /// so: a dated read of a blank sheet with as many slots comes as far as "blank".
 fn slots_with(sheet: &[u8], slot: usize) -> Result<usize, Refusal> {
     let slots = numbers(sheet).next().map_or(0, usize::from);
-    let blank = blank_sheet(slots, 64, 0).map_err(|_| Refusal::UnfitSheet)?;
+    let blank = blank_sheet(slots, 64, 0).map_err(|_| Refusal::UnfitSheet(Fault::Terms))?;
     let (sealing, checking, mut window) = ([0; 8], [1; 8], [0; FIELD]);
     match captions::dated_read(&sealing, &checking, &blank, sheet, slot, 0, &mut window) {
         Ok(_) | Err(Refusal::Blank) => Ok(slots),

@@ -114,7 +114,7 @@ int main(int count, char **words)
     static uint8_t sheet[SHEET_ROOM], terms[TERMS_ROOM];
     uint8_t sealing[KEY_ROOM], checking[KEY_ROOM], window[CAPTIONS_FIELD];
     size_t slot, sheet_len, terms_len, sealing_len, checking_len;
-    captions_answer answer;
+    captions_pointed answer;
     FILE *file;
     int two_lines;
 
@@ -157,5 +157,8 @@ int main(int count, char **words)
     /* A full disk shows when the last bytes leave the buffer. */
     if (fflush(stdout) != 0 || ferror(stdout))
         return cannot("standard output");
+    if (answer.rule != CAPTIONS_RULE_NONE)
+        fprintf(stderr, "rule %d, slot %d, place %d\n", answer.rule,
+                answer.slot, answer.place);
     return answer.number;
 }

@@ -23,10 +23,11 @@ WORDS = ("accepted", "wrong key", "twin keys", "wrong span", "unfit sheet", "oth
          "no such slot", "overlong", "worn", "blank", "altered", "no such date", "not on show")
 
 
-class Answer(ctypes.Structure):
-    """captions_answer of include/captions.h."""
+class Pointed(ctypes.Structure):
+    """captions_pointed of include/captions.h."""
 
-    _fields_ = [("number", ctypes.c_uint8), ("length", ctypes.c_uint16)]
+    _fields_ = [("number", ctypes.c_uint8), ("rule", ctypes.c_uint8), ("length", ctypes.c_uint16),
+                ("slot", ctypes.c_uint16), ("place", ctypes.c_uint16)]
 
 
 class Day(ctypes.Structure):
@@ -54,7 +55,9 @@ def call(name: str, result: type, *words) -> ctypes.Structure:
 def read(name: str, *words) -> tuple[int, bytes]:
     """The number that a read answers, and the caption where it is 0."""
     window = ctypes.create_string_buffer(FIELD)
-    answer = call(name, Answer, *words, window)
+    answer = call(name, Pointed, *words, window)
+    if answer.rule != 0:
+        print(f"rule {answer.rule}, slot {answer.slot}, place {answer.place}", file=sys.stderr)
     return answer.number, window.raw[: answer.length]
 
 

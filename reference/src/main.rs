@@ -1,16 +1,18 @@
 //! Prints vectors, the arrays after each round of a block, every date, or the
-//! listing of a sheet on standard input.
+//! listing or the first fault of a sheet on standard input.
 
+use reference::faults::fault_line;
 use reference::listing::MOST_BYTES;
 use reference::{calendar, listing, vectors};
 use std::io::{stdin, stdout, Read, Result, Write};
 use std::process::ExitCode;
 
 const USAGE: &str = "\
-usage: reference vectors blocks|keys|bench|cmac|steps|cbc|sheet
+usage: reference vectors blocks|keys|bench|cmac|steps|cbc|sheet|faults
        reference rounds KEY BLOCK
        reference dates
        reference list < sheet
+       reference fault < sheet
 ";
 
 /// Exit statuses: a wrong command line, and input or output that failed.
@@ -46,9 +48,11 @@ fn run(words: &[&str]) -> Option<Result<()>> {
         ["vectors", "steps"] => vectors::steps(),
         ["vectors", "cbc"] => vectors::cbc(),
         ["vectors", "sheet"] => vectors::sheet(),
+        ["vectors", "faults"] => vectors::faults(),
         ["rounds", key, block] => vectors::rounds(key, block)?,
         ["dates"] => calendar::all_dates(),
-        ["list"] => return Some(list()),
+        ["list"] => return Some(print_of_sheet(listing)),
+        ["fault"] => return Some(print_of_sheet(|sheet| fault_line(sheet).into_bytes())),
         _ => return None,
     };
     Some(print(text.as_bytes()))
@@ -60,10 +64,11 @@ fn print(text: &[u8]) -> Result<()> {
     out.flush()
 }
 
-/// Reads one byte more than the longest sheet has, which is enough to list it.
-fn list() -> Result<()> {
+/// Prints what a sheet on standard input gives. Reads one byte more than the
+/// longest sheet has, which is enough to list it and to find its first fault.
+fn print_of_sheet(text: impl Fn(&[u8]) -> Vec<u8>) -> Result<()> {
     let mut sheet = Vec::new();
     let most = MOST_BYTES as u64 + 1;
     stdin().lock().take(most).read_to_end(&mut sheet)?;
-    print(&listing(&sheet))
+    print(&text(&sheet))
 }

@@ -1,11 +1,12 @@
 //! The sheet: layout, blanking, writing, clearing, reading (document 01, "The
-//! sheet" and "What the kiosk shows instead of a caption"; document 02, request
-//! 3).
+//! sheet" and "What the kiosk shows instead of a caption"; document 02, requests
+//! 3 and 5).
 
 use crate::cipher::{decrypt, encrypt, Block, Register};
+use crate::faults::{first_fault, Fault};
 use crate::modes::{cbc_decrypt, cbc_encrypt, cmac_with};
 use crate::{
-    refuse_if, Answer, ALTERED, BLANK, NO_SUCH_SLOT, OTHER_KEY_CLASS, OVERLONG, TWIN_KEYS,
+    refuse_if, Answer, Pointed, Refusal, BLANK, NO_SUCH_SLOT, OTHER_KEY_CLASS, OVERLONG, TWIN_KEYS,
     UNFIT_SHEET, WORN, WRONG_KEY, WRONG_SPAN,
 };
 use std::array::from_fn;
@@ -30,7 +31,7 @@ impl Edition {
     pub(crate) const BLANKED: Edition = Edition::Two;
 
     /// The edition of byte 3; none if there is no such edition.
-    fn of_number(number: u8) -> Option<Edition> {
+    pub(crate) fn of_number(number: u8) -> Option<Edition> {
         match number {
             1 => Some(Edition::One),
             2 => Some(Edition::Two),
@@ -39,7 +40,7 @@ impl Edition {
     }
 
     /// Byte 3.
-    fn number(self) -> u8 {
+    pub(crate) fn number(self) -> u8 {
         match self {
             Edition::One => 1,
             Edition::Two => 2,
@@ -60,13 +61,13 @@ impl Edition {
     }
 
     /// Where the mark of a slot stands.
-    fn mark_place(self, slot: usize) -> Range<usize> {
+    pub(crate) fn mark_place(self, slot: usize) -> Range<usize> {
         let start = self.header() + MARK * slot;
         start..start + MARK
     }
 
     /// Where the sealed field of a slot stands.
-    fn field_place(self, n: usize, slot: usize) -> Range<usize> {
+    pub(crate) fn field_place(self, n: usize, slot: usize) -> Range<usize> {
         let start = self.header() + MARK * n + FIELD * slot;
         start..start + FIELD
     }
@@ -77,7 +78,7 @@ pub(crate) fn number(bytes: &[u8]) -> u32 {
     bytes.iter().fold(0, |x, byte| x << 8 | u32::from(*byte))
 }
 
-fn all_zero(bytes: &[u8]) -> bool {
+pub(crate) fn all_zero(bytes: &[u8]) -> bool {
     bytes.iter().all(|byte| *byte == 0)
 }
 
@@ -221,10 +222,14 @@ fn start_block(sealing_key: Register, header: &Header, write_number: u32, slot: 
     encrypt(sealing_key, [a, b, c, d, e, f, g, h])
 }
 
-/// The caption followed by zero bytes up to 192, sealed by CBC.
-fn sealed_field(key: Register, start: Block, caption: &[u8]) -> Vec<u8> {
-    let mut plain = caption.to_vec();
-    plain.resize(FIELD, 0);
+/// The caption followed by zero bytes up to 192; of one above 192 bytes, which
+/// is refused, the first 192.
+fn plain_field(caption: &[u8]) -> [u8; FIELD] {
+    from_fn(|i| caption.get(i).copied().unwrap_or(0))
+}
+
+/// A plain field sealed by CBC.
+fn sealed_field(key: Register, start: Block, plain: &[u8; FIELD]) -> Vec<u8> {
     let blocks = plain.as_chunks::<8>().0;
     cbc_encrypt(&|block| encrypt(key, block), start, blocks).concat()
 }
@@ -259,9 +264,9 @@ pub(crate) fn key_pair(
     Ok((sealing, checking))
 }
 
-/// Test 4.
-pub(crate) fn tested_header(sheet: &[u8]) -> Result<Header, u8> {
-    fit_header(sheet).ok_or(UNFIT_SHEET)
+/// Test 4 of a read and a write, which points to the sheet's first fault.
+pub(crate) fn tested_header(sheet: &[u8]) -> Result<Header, Refusal> {
+    fit_header(sheet).ok_or_else(|| Refusal::unfit(first_fault(sheet)))
 }
 
 // ---- Blanking ----
@@ -297,22 +302,53 @@ struct Written {
     field: Vec<u8>,
 }
 
-/// Writing a caption into a slot. Refusals 1, 2, 4, 5, 6, 7, 8.
+/// Writing a caption into a slot. Refusals 1, 2, 4, 5, 6, 7, 8; 4 points to the
+/// sheet's first fault.
 pub fn write(
     sealing_key: &[u8],
     checking_key: &[u8],
     sheet: &mut [u8],
     slot: usize,
     caption: &[u8],
+) -> Pointed {
+    let plain = plain_field(caption);
+    let tested = tested_write(
+        sealing_key,
+        checking_key,
+        sheet,
+        slot,
+        caption.len(),
+        &plain,
+    );
+    answer_write(tested, sheet, slot)
+}
+
+/// A tool for tests: a write whose 192 plain bytes are given whole and sealed as
+/// they are, so that a slot with a true check may have set bytes at or past its
+/// length. Refusals as for a write, 7 for a length above 192.
+pub fn store_field(
+    sealing_key: &[u8],
+    checking_key: &[u8],
+    sheet: &mut [u8],
+    slot: usize,
+    length: u16,
+    field: &[u8; FIELD],
 ) -> Answer {
-    match tested_write(sealing_key, checking_key, sheet, slot, caption) {
+    let length = usize::from(length);
+    let tested = tested_write(sealing_key, checking_key, sheet, slot, length, field);
+    answer_write(tested, sheet, slot).answer()
+}
+
+/// Stores what is written, and answers the write.
+fn answer_write(tested: Result<Written, Refusal>, sheet: &mut [u8], slot: usize) -> Pointed {
+    match tested {
         Ok(written) => {
             sheet[4..8].copy_from_slice(&written.mark.write_number.to_be_bytes());
             sheet[written.header.mark_place(slot)].copy_from_slice(&written.mark.bytes());
             sheet[written.header.field_place(slot)].copy_from_slice(&written.field);
-            Answer::accepted(0)
+            Pointed::accepted(0)
         }
-        Err(number) => Answer::refused(number),
+        Err(refusal) => Pointed::refused(refusal),
     }
 }
 
@@ -321,18 +357,19 @@ fn tested_write(
     checking_key: &[u8],
     sheet: &[u8],
     slot: usize,
-    caption: &[u8],
-) -> Result<Written, u8> {
+    length: usize,
+    plain: &[u8; FIELD],
+) -> Result<Written, Refusal> {
     let (sealing, checking) = key_pair(sealing_key, checking_key)?;
     let header = tested_header(sheet)?;
     refuse_if(sealing_key.len() != 2 * header.t, OTHER_KEY_CLASS)?;
     refuse_if(slot >= header.n, NO_SUCH_SLOT)?;
-    refuse_if(caption.len() > FIELD, OVERLONG)?;
+    refuse_if(length > FIELD, OVERLONG)?;
     let write_number = header.w.checked_add(1).ok_or(WORN)?;
 
-    let length = caption.len() as u16;
+    let length = length as u16;
     let start = start_block(sealing, &header, write_number, slot);
-    let field = sealed_field(sealing, start, caption);
+    let field = sealed_field(sealing, start, plain);
     let mark = Mark {
         write_number,
         length,
@@ -361,7 +398,7 @@ pub fn clear(sheet: &mut [u8], slot: usize) -> Answer {
 }
 
 fn tested_clear(sheet: &[u8], slot: usize) -> Result<Header, u8> {
-    let header = tested_header(sheet)?;
+    let header = fit_header(sheet).ok_or(UNFIT_SHEET)?;
     refuse_if(slot >= header.n, NO_SUCH_SLOT)?;
     Ok(header)
 }
@@ -375,28 +412,29 @@ pub(crate) struct Caption {
 }
 
 /// Reading a slot into a window of 192 bytes. Refusals 1, 2, 3, 4, 5, 6, 9,
-/// 10; a refused read makes every byte of its window zero.
+/// 10; 4 points to the sheet's first fault, 10 to the check or an opened byte. A
+/// refused read makes every byte of its window zero.
 pub fn read(
     sealing_key: &[u8],
     checking_key: &[u8],
     sheet: &[u8],
     slot: usize,
     window: &mut [u8],
-) -> Answer {
+) -> Pointed {
     let tested = tested_read(sealing_key, checking_key, sheet, slot, window);
     answer_read(tested, window)
 }
 
 /// Fills the window of a read, and answers it.
-pub(crate) fn answer_read(tested: Result<Caption, u8>, window: &mut [u8]) -> Answer {
+pub(crate) fn answer_read(tested: Result<Caption, Refusal>, window: &mut [u8]) -> Pointed {
     match tested {
         Ok(caption) => {
             window.copy_from_slice(&caption.window);
-            Answer::accepted(caption.length)
+            Pointed::accepted(caption.length)
         }
-        Err(number) => {
+        Err(refusal) => {
             window.fill(0);
-            Answer::refused(number)
+            Pointed::refused(refusal)
         }
     }
 }
@@ -407,7 +445,7 @@ fn tested_read(
     sheet: &[u8],
     slot: usize,
     window: &[u8],
-) -> Result<Caption, u8> {
+) -> Result<Caption, Refusal> {
     let keys = key_pair(sealing_key, checking_key)?;
     refuse_if(window.len() != FIELD, WRONG_SPAN)?;
     let header = tested_header(sheet)?;
@@ -417,22 +455,26 @@ fn tested_read(
     tested_caption(keys, sheet, &header, slot, &mark)
 }
 
-/// Test 10: the check, then the opened bytes at and past the length.
+/// Test 10: the check, or else the first opened byte at or past the length that
+/// isn't zero.
 pub(crate) fn tested_caption(
     (sealing, checking): (Register, Register),
     sheet: &[u8],
     header: &Header,
     slot: usize,
     mark: &Mark,
-) -> Result<Caption, u8> {
+) -> Result<Caption, Refusal> {
     let field = &sheet[header.field_place(slot)];
     let true_check = check(checking, mark.write_number, slot, mark.length, field);
-    refuse_if(mark.check != true_check, ALTERED)?;
+    let differs = mark.check != true_check;
+    refuse_if(differs, Refusal::altered(Fault::Check { slot }))?;
     let start = start_block(sealing, header, mark.write_number, slot);
     let opened = opened_field(sealing, start, field);
-    refuse_if(!all_zero(&opened[usize::from(mark.length)..]), ALTERED)?;
-    Ok(Caption {
-        length: mark.length,
-        window: opened,
-    })
+    match (usize::from(mark.length)..FIELD).find(|place| opened[*place] != 0) {
+        Some(place) => Err(Refusal::altered(Fault::OpenedByte { slot, place })),
+        None => Ok(Caption {
+            length: mark.length,
+            window: opened,
+        }),
+    }
 }

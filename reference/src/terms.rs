@@ -1,12 +1,13 @@
-//! The term sheet and the dated read (document 02, request 1).
+//! The term sheet and the dated read (document 02, requests 1 and 5).
 
 use crate::calendar::LAST_DAY;
+use crate::faults::Fault;
 use crate::sheet::{
     answer_read, key_pair, mark_of, number, tested_caption, tested_header, Caption, FIELD,
 };
 use crate::{
-    refuse_if, Answer, BLANK, NOT_ON_SHOW, NO_SUCH_DATE, NO_SUCH_SLOT, OTHER_KEY_CLASS,
-    UNFIT_SHEET, WRONG_SPAN,
+    refuse_if, Pointed, Refusal, BLANK, NOT_ON_SHOW, NO_SUCH_DATE, NO_SUCH_SLOT, OTHER_KEY_CLASS,
+    WRONG_SPAN,
 };
 
 /// The term of a slot.
@@ -54,7 +55,8 @@ fn fit_terms(terms: &[u8], n: usize) -> Option<Vec<Term>> {
 
 /// Reading a slot on a day into a window of 192 bytes. Refusals 1, 2, 3, 4 for
 /// the caption sheet, 4 for the term sheet, 5, 11, 6, 9, 12, 10, in that order;
-/// a refused read makes every byte of its window zero.
+/// 4 and 10 point as a read's do, 4 for the term sheet to that sheet as such. A
+/// refused read makes every byte of its window zero.
 pub fn dated_read(
     sealing_key: &[u8],
     checking_key: &[u8],
@@ -63,7 +65,7 @@ pub fn dated_read(
     slot: usize,
     day: usize,
     window: &mut [u8],
-) -> Answer {
+) -> Pointed {
     let tested = tested_dated_read(sealing_key, checking_key, sheet, terms, slot, day, window);
     answer_read(tested, window)
 }
@@ -76,11 +78,11 @@ fn tested_dated_read(
     slot: usize,
     day: usize,
     window: &[u8],
-) -> Result<Caption, u8> {
+) -> Result<Caption, Refusal> {
     let keys = key_pair(sealing_key, checking_key)?;
     refuse_if(window.len() != FIELD, WRONG_SPAN)?;
     let header = tested_header(sheet)?;
-    let terms = fit_terms(terms, header.n).ok_or(UNFIT_SHEET)?;
+    let terms = fit_terms(terms, header.n).ok_or(Refusal::unfit(Some(Fault::Terms)))?;
     refuse_if(sealing_key.len() != 2 * header.t, OTHER_KEY_CLASS)?;
     refuse_if(day > LAST_DAY, NO_SUCH_DATE)?;
     refuse_if(slot >= header.n, NO_SUCH_SLOT)?;

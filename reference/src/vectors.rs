@@ -5,7 +5,7 @@ use crate::cipher::{decrypt_block, encrypt, encrypt_block, opening_key, sealing_
 use crate::cipher::{Block, Register};
 use crate::modes::{cbc_decrypt, cbc_encrypt, cmac, cmac_steps};
 use crate::sheet::Edition;
-use crate::{blank, cipher, clear, listing, read, write, Answer};
+use crate::{blank, cipher, clear, listing, read, write, Answer, Pointed};
 
 /// The values of t.
 const CLASSES: [usize; 3] = [4, 6, 8];
@@ -203,18 +203,29 @@ pub fn sheet() -> String {
         .concat()
 }
 
-/// The list on a sheet blanked with the serial 0x5a00 + t.
+/// The list on a blanked sheet.
 fn on_blanked_sheet(t: usize) -> String {
-    let mut sheet = vec![0xff; Edition::BLANKED.sheet_length(3)];
-    let answer = blank(&mut sheet, 3, t, 0x5a00 + t as u16);
+    let (answer, sheet) = blanked_sheet(t);
     list_of_calls(t, "blank", answer, sheet)
 }
 
-/// The list on a blank sheet of edition 1, which no call makes.
+/// The list on a blank sheet of edition 1.
 fn on_old_sheet(t: usize) -> String {
+    list_of_calls(t, "old", Answer::accepted(0), old_sheet(t))
+}
+
+/// A sheet of three slots, blanked with the serial 0x5a00 + t.
+fn blanked_sheet(t: usize) -> (Answer, Vec<u8>) {
+    let mut sheet = vec![0xff; Edition::BLANKED.sheet_length(3)];
+    let answer = blank(&mut sheet, 3, t, 0x5a00 + t as u16);
+    (answer, sheet)
+}
+
+/// A blank sheet of three slots of edition 1, which no call makes.
+fn old_sheet(t: usize) -> Vec<u8> {
     let mut sheet = vec![0; Edition::One.sheet_length(3)];
     sheet[0..4].copy_from_slice(&[0, 3, t as u8, 1]);
-    list_of_calls(t, "old", Answer::accepted(0), sheet)
+    sheet
 }
 
 /// The list, after a line that says where the sheet comes from.
@@ -259,7 +270,7 @@ fn write_lines(
 ) -> String {
     let mut lines = String::new();
     for (slot, caption) in writes {
-        let answer = write(sealing_key, checking_key, sheet, *slot, caption);
+        let answer = write(sealing_key, checking_key, sheet, *slot, caption).answer();
         lines += &call_line("write", answer, checking_key, sheet);
     }
     lines
@@ -271,7 +282,7 @@ fn write_lines(
 fn twin_writes(sealing_key: &[u8], checking_key: &[u8], sheet: &mut [u8]) -> String {
     let mut lines = String::new();
     for second_key in [sealing_key.to_vec(), near_twin(sealing_key)] {
-        let answer = write(sealing_key, &second_key, sheet, 0, b"abc");
+        let answer = write(sealing_key, &second_key, sheet, 0, b"abc").answer();
         lines += &call_line("write", answer, checking_key, sheet);
     }
     lines
@@ -290,7 +301,7 @@ fn near_twin(key: &[u8]) -> Vec<u8> {
 fn read_line(sealing_key: &[u8], checking_key: &[u8], sheet: &[u8], slot: usize) -> String {
     let mut window = [0xff; 192];
     let answer = read(sealing_key, checking_key, sheet, slot, &mut window);
-    let Answer { number, length } = answer;
+    let Answer { number, length } = answer.answer();
     format!("read {slot} {number} {length} {}\n", hex(&window))
 }
 
@@ -300,4 +311,51 @@ fn call_line(call: &str, answer: Answer, checking_key: &[u8], sheet: &[u8]) -> S
     cmac(checking_key, sheet, &mut mac);
     let Answer { number, length } = answer;
     format!("{call} {number} {length} {}\n", hex(&mac))
+}
+
+/// For each edition and each t a sheet of three slots, then a line for each of
+/// its bits.
+pub fn faults() -> String {
+    let old = CLASSES.map(|t| flipped_reads(Edition::One, t, old_sheet(t)));
+    let blanked = CLASSES.map(|t| flipped_reads(Edition::BLANKED, t, blanked_sheet(t).1));
+    old.concat() + &blanked.concat()
+}
+
+/// "sheet", edition, t, sealing key, checking key, the sheet; then byte, bit,
+/// number, rule, slot, place of a read of it with that bit flipped.
+fn flipped_reads(edition: Edition, t: usize, mut sheet: Vec<u8>) -> String {
+    let sealing = key(t, t);
+    let checking = key(t, t + 1);
+    for (slot, length) in [(0, 5), (1, 17), (2, 192)] {
+        write(&sealing, &checking, &mut sheet, slot, &text(slot, length));
+    }
+    clear(&mut sheet, 1);
+    let mut lines = format!("sheet {} {t}", edition.number());
+    lines += &format!(" {} {} {}\n", hex(&sealing), hex(&checking), hex(&sheet));
+    for byte in 0..sheet.len() {
+        for bit in 0..8 {
+            let mut flipped = sheet.clone();
+            flipped[byte] ^= 1 << bit;
+            let slot = slot_of_byte(edition, byte);
+            let pointed = read(&sealing, &checking, &flipped, slot, &mut [0; 192]);
+            lines += &format!("{byte} {bit} {}\n", pointed_fields(pointed));
+        }
+    }
+    lines
+}
+
+/// The slot, of three, in whose mark or field a byte lies; 0 for the header.
+fn slot_of_byte(edition: Edition, byte: usize) -> usize {
+    let has_byte = |slot: &usize| {
+        edition.mark_place(*slot).contains(&byte) || edition.field_place(3, *slot).contains(&byte)
+    };
+    (0..3).find(has_byte).unwrap_or(0)
+}
+
+/// Number, rule, slot, place.
+fn pointed_fields(pointed: Pointed) -> String {
+    format!(
+        "{} {} {} {}",
+        pointed.number, pointed.rule, pointed.slot, pointed.place
+    )
 }

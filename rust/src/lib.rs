@@ -34,11 +34,13 @@
 #![warn(missing_docs)]
 
 mod date;
+mod fault;
 mod library;
 mod refusal;
 
 pub use date::Date;
-use library::Answer;
+pub use fault::{Change, Fault};
+use library::{Answer, Pointed};
 pub use refusal::Refusal;
 
 /// The bytes of a block or an array, and of an output.
@@ -258,13 +260,8 @@ pub fn write(
     slot: usize,
     caption: &[u8],
 ) -> Result<(), Refusal> {
-    done(library::write(
-        sealing_key,
-        checking_key,
-        sheet,
-        slot,
-        caption,
-    ))
+    let answer = library::write(sealing_key, checking_key, sheet, slot, caption);
+    pointed(answer, sheet).map(|_| ())
 }
 
 /// Makes a slot blank; a blank one stays blank.
@@ -286,7 +283,30 @@ pub fn write(
 /// # Ok::<(), Refusal>(())
 /// ```
 pub fn clear(sheet: &mut [u8], slot: usize) -> Result<(), Refusal> {
-    done(library::clear(sheet, slot))
+    // The answer to a clear names no rule, but the sheet is as it was.
+    done(library::clear(sheet, slot)).map_err(|refusal| match refusal {
+        Refusal::UnfitSheet(Fault::Unnamed) => {
+            first_fault(sheet).map_or(refusal, Refusal::UnfitSheet)
+        }
+        other => other,
+    })
+}
+
+/// The rule that a sheet breaks first; none if it is fit. It takes no keys: a
+/// sheet is tested before the keys' length is held against it.
+///
+/// ```
+/// use captions::{first_fault, Fault};
+///
+/// assert_eq!(first_fault(b"tag"), Some(Fault::Short { bytes: 3 }));
+/// ```
+pub fn first_fault(sheet: &[u8]) -> Option<Fault> {
+    // Any two unlike keys will do.
+    let answer = library::read(&[0; 8], &[1; 8], sheet, 0, &mut [0; FIELD]);
+    match pointed(answer, sheet) {
+        Err(Refusal::UnfitSheet(fault)) => Some(fault),
+        _ => None,
+    }
 }
 
 /// Reads a slot: the window, [`FIELD`] bytes, gets the caption and then zero
@@ -310,7 +330,8 @@ pub fn clear(sheet: &mut [u8], slot: usize) -> Result<(), Refusal> {
 /// assert_eq!(&window[..length], b"Clock");
 /// assert_eq!(read(&[1; 8], &[2; 8], &sheet, 1, &mut window), Err(Refusal::Blank));
 /// assert_eq!(window, [0; FIELD]);
-/// assert_eq!(read(&[1; 8], &[3; 8], &sheet, 0, &mut window), Err(Refusal::Altered));
+/// let refusal = read(&[1; 8], &[3; 8], &sheet, 0, &mut window).unwrap_err();
+/// assert_eq!(refusal.to_string(), "altered: the check differs");
 /// # Ok::<(), Refusal>(())
 /// ```
 pub fn read(
@@ -321,7 +342,7 @@ pub fn read(
     window: &mut [u8],
 ) -> Result<usize, Refusal> {
     let answer = library::read(sealing_key, checking_key, sheet, slot, window);
-    accepted(answer).map(usize::from)
+    pointed(answer, sheet).map(usize::from)
 }
 
 /// Reads a slot as [`read`] does, if the slot is on show on a day by the term
@@ -365,7 +386,7 @@ pub fn dated_read(
     window: &mut [u8],
 ) -> Result<usize, Refusal> {
     let answer = library::dated_read(sealing_key, checking_key, sheet, terms, slot, day, window);
-    accepted(answer).map(usize::from)
+    pointed(answer, sheet).map(usize::from)
 }
 
 /// The day of a date of the Gregorian calendar, from 2000-01-01, day 0, to
@@ -436,12 +457,16 @@ fn unless_refused<T>(number: u8, value: T) -> Result<T, Refusal> {
     }
 }
 
-/// The length that an accepted call answers, or the refusal.
-fn accepted(answer: Answer) -> Result<u16, Refusal> {
-    unless_refused(answer.number, answer.length)
+/// The length that an accepted call on a sheet answers, or the refusal and the
+/// rule that gave it.
+fn pointed(answer: Pointed, sheet: &[u8]) -> Result<u16, Refusal> {
+    match Refusal::of_pointed(&answer, sheet) {
+        None => Ok(answer.length),
+        Some(refusal) => Err(refusal),
+    }
 }
 
 /// An accepted call that has no length to give, or the refusal.
 fn done(answer: Answer) -> Result<(), Refusal> {
-    accepted(answer).map(|_| ())
+    unless_refused(answer.number, ())
 }

@@ -11,6 +11,16 @@ pub struct Answer {
     pub length: u16,
 }
 
+/// `captions_pointed`.
+#[repr(C)]
+pub struct Pointed {
+    pub number: u8,
+    pub rule: u8,
+    pub length: u16,
+    pub slot: u16,
+    pub place: u16,
+}
+
 /// `captions_day`.
 #[repr(C)]
 pub struct Day {
@@ -28,7 +38,7 @@ pub struct Date {
 }
 
 mod c {
-    use super::{Answer, Date, Day};
+    use super::{Answer, Date, Day, Pointed};
 
     extern "C" {
         pub fn captions_encrypt_block(
@@ -83,7 +93,7 @@ mod c {
             slot: usize,
             caption: *const u8,
             caption_len: usize,
-        ) -> Answer;
+        ) -> Pointed;
         pub fn captions_clear(sheet: *mut u8, sheet_len: usize, slot: usize) -> Answer;
         pub fn captions_read(
             sealing_key: *const u8,
@@ -95,7 +105,7 @@ mod c {
             slot: usize,
             window: *mut u8,
             window_len: usize,
-        ) -> Answer;
+        ) -> Pointed;
         pub fn captions_dated_read(
             sealing_key: *const u8,
             sealing_len: usize,
@@ -109,7 +119,7 @@ mod c {
             day: usize,
             window: *mut u8,
             window_len: usize,
-        ) -> Answer;
+        ) -> Pointed;
         pub fn captions_day_of_date(year: usize, month: usize, day: usize) -> Day;
         pub fn captions_date_of_day(day: usize) -> Date;
         pub fn captions_list(
@@ -191,7 +201,7 @@ pub fn write(
     sheet: &mut [u8],
     slot: usize,
     caption: &[u8],
-) -> Answer {
+) -> Pointed {
     // SAFETY: as at the head of this file.
     unsafe {
         c::captions_write(
@@ -219,7 +229,7 @@ pub fn read(
     sheet: &[u8],
     slot: usize,
     window: &mut [u8],
-) -> Answer {
+) -> Pointed {
     // SAFETY: as at the head of this file.
     unsafe {
         c::captions_read(
@@ -244,7 +254,7 @@ pub fn dated_read(
     slot: usize,
     day: usize,
     window: &mut [u8],
-) -> Answer {
+) -> Pointed {
     // SAFETY: as at the head of this file.
     unsafe {
         c::captions_dated_read(

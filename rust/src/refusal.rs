@@ -1,15 +1,24 @@
 //! The refusals, their numbers and their words.
 
+use crate::fault::{Change, Fault};
+use crate::library::Pointed;
 use std::fmt;
 
 /// Why a call was refused. Shown as the word that the kiosk shows instead of a
-/// caption.
+/// caption, which [`word`](Refusal::word) gives alone; behind the word of an
+/// unfit sheet and of an altered slot stands the rule that gave it.
 ///
 /// ```
-/// use captions::Refusal;
+/// use captions::{Change, Fault, Refusal};
 ///
-/// assert_eq!(Refusal::Altered.number(), 10);
-/// assert_eq!(Refusal::Altered.to_string(), "altered");
+/// let refusal = Refusal::UnfitSheet(Fault::CaptionLength { slot: 3, place: 68 });
+/// assert_eq!(refusal.number(), 4);
+/// assert_eq!(refusal.word(), "unfit sheet");
+/// assert_eq!(
+///     refusal.to_string(),
+///     "unfit sheet: slot 3: length above 192 (bytes 68 and 69)"
+/// );
+/// assert_eq!(Refusal::Worn.to_string(), "worn");
 /// ```
 #[derive(Clone, Copy, Debug, PartialEq, Eq, Hash)]
 pub enum Refusal {
@@ -24,8 +33,9 @@ pub enum Refusal {
     WrongSpan,
     /// 4: shorter than 8 bytes, or any rule of the layout broken, in any slot; a
     /// term sheet with another slot count than the sheet's, another length or a
-    /// day above [`LAST_DAY`](crate::LAST_DAY), in any slot.
-    UnfitSheet,
+    /// day above [`LAST_DAY`](crate::LAST_DAY), in any slot. With the rule that
+    /// is broken first.
+    UnfitSheet(Fault),
     /// 5: the keys have another length than the sheet's.
     OtherKeyClass,
     /// 6: the slot isn't below the slot count.
@@ -37,8 +47,8 @@ pub enum Refusal {
     /// 9: a read of a blank slot.
     Blank,
     /// 10: the check differs, or an opened byte at or past the length isn't
-    /// zero.
-    Altered,
+    /// zero. With what differs.
+    Altered(Change),
     /// 11: a year, month and day that are no date from 2000-01-01 to 2099-12-31,
     /// or a day above [`LAST_DAY`](crate::LAST_DAY).
     NoSuchDate,
@@ -56,13 +66,13 @@ const WORDS: [(Refusal, &str); 13] = [
     (Refusal::WrongKey, "wrong key"),
     (Refusal::TwinKeys, "twin keys"),
     (Refusal::WrongSpan, "wrong span"),
-    (Refusal::UnfitSheet, "unfit sheet"),
+    (Refusal::UnfitSheet(Fault::Unnamed), "unfit sheet"),
     (Refusal::OtherKeyClass, "other key class"),
     (Refusal::NoSuchSlot, "no such slot"),
     (Refusal::Overlong, "overlong"),
     (Refusal::Worn, "worn"),
     (Refusal::Blank, "blank"),
-    (Refusal::Altered, "altered"),
+    (Refusal::Altered(Change::Unnamed), "altered"),
     (Refusal::NoSuchDate, "no such date"),
     (Refusal::NotOnShow, "not on show"),
     (Refusal::NoSuchRound, "no such round"),
@@ -70,7 +80,7 @@ const WORDS: [(Refusal, &str); 13] = [
 
 impl Refusal {
     /// The refusal of a number that a call answers; none for 0, which is
-    /// "accepted".
+    /// "accepted". A number alone names no rule.
     ///
     /// ```
     /// use captions::Refusal;
@@ -85,6 +95,25 @@ impl Refusal {
         Some(named.unwrap_or(Refusal::Other(number)))
     }
 
+    /// The refusal of an answer that points, which a call on this sheet gave.
+    pub(crate) fn of_pointed(answer: &Pointed, sheet: &[u8]) -> Option<Refusal> {
+        Refusal::of_number(answer.number).map(|refusal| match refusal {
+            Refusal::UnfitSheet(_) => Refusal::UnfitSheet(Fault::of_pointed(answer, sheet)),
+            Refusal::Altered(_) => Refusal::Altered(Change::of_pointed(answer)),
+            other => other,
+        })
+    }
+
+    /// The word that the kiosk shows instead of a caption.
+    ///
+    /// ```
+    /// assert_eq!(captions::Refusal::WrongKey.word(), "wrong key");
+    /// ```
+    pub fn word(self) -> &'static str {
+        let place = usize::from(self.number()).wrapping_sub(1);
+        WORDS.get(place).map_or("refused", |(_, word)| word)
+    }
+
     /// The refusal's number.
     ///
     /// ```
@@ -95,13 +124,13 @@ impl Refusal {
             Refusal::WrongKey => 1,
             Refusal::TwinKeys => 2,
             Refusal::WrongSpan => 3,
-            Refusal::UnfitSheet => 4,
+            Refusal::UnfitSheet(_) => 4,
             Refusal::OtherKeyClass => 5,
             Refusal::NoSuchSlot => 6,
             Refusal::Overlong => 7,
             Refusal::Worn => 8,
             Refusal::Blank => 9,
-            Refusal::Altered => 10,
+            Refusal::Altered(_) => 10,
             Refusal::NoSuchDate => 11,
             Refusal::NotOnShow => 12,
             Refusal::NoSuchRound => 13,
@@ -112,8 +141,13 @@ impl Refusal {
 
 impl fmt::Display for Refusal {
     fn fmt(&self, f: &mut fmt::Formatter<'_>) -> fmt::Result {
-        let word = WORDS.iter().find(|(refusal, _)| refusal == self);
-        f.write_str(word.map_or("refused", |(_, word)| word))
+        f.write_str(self.word())?;
+        match self {
+            Refusal::UnfitSheet(Fault::Unnamed) | Refusal::Altered(Change::Unnamed) => Ok(()),
+            Refusal::UnfitSheet(fault) => write!(f, ": {fault}"),
+            Refusal::Altered(change) => write!(f, ": {change}"),
+            _ => Ok(()),
+        }
     }
 }
 

@@ -6,7 +6,7 @@ mod edition;
 
 use captions::{sheet_len, sheet_len_1, Refusal, FIELD, HEADER, HEADER_1};
 use edition::Edition;
-use reference::Answer;
+use reference::{Answer, Pointed};
 
 /// A small seeded generator (splitmix64).
 struct Random(u64);
@@ -79,6 +79,20 @@ impl Met {
         } = expected;
         assert_eq!((number, length), (n, usize::from(l)));
         self.0[usize::from(number)] += 1;
+    }
+
+    /// Compares an answer that points with the second program's.
+    fn compare_pointed(&mut self, answer: Result<usize, Refusal>, expected: Pointed) {
+        let numbers = match answer {
+            Err(Refusal::UnfitSheet(fault)) => fault.numbers(),
+            Err(Refusal::Altered(change)) => change.numbers(),
+            _ => (0, 0, 0),
+        };
+        let Pointed {
+            rule, slot, place, ..
+        } = expected;
+        assert_eq!(numbers, (rule, slot, place));
+        self.compare(answer, expected.answer());
     }
 
     fn all_of(&self, numbers: &[usize]) {
@@ -210,7 +224,7 @@ fn list_of_calls(random: &mut Random, edition: Edition, met: &mut Met) {
                 let length = random.pick(&[0, 1, 8, 17, 191, 192, 192, 193]);
                 let caption = random.bytes(length);
                 let answer = captions::write(&sealing, &checking, &mut sheet, slot, &caption);
-                met.compare(
+                met.compare_pointed(
                     answer.map(|()| 0),
                     reference::write(&sealing, &checking, &mut expected, slot, &caption),
                 );
@@ -219,7 +233,7 @@ fn list_of_calls(random: &mut Random, edition: Edition, met: &mut Met) {
                 let length = random.pick(&[FIELD, FIELD, FIELD, FIELD, 0, 191, 193]);
                 let (mut window, mut expected) = (vec![7; length], vec![7; length]);
                 let answer = captions::read(&sealing, &checking, &sheet, slot, &mut window);
-                met.compare(
+                met.compare_pointed(
                     answer,
                     reference::read(&sealing, &checking, &sheet, slot, &mut expected),
                 );
@@ -233,6 +247,11 @@ fn list_of_calls(random: &mut Random, edition: Edition, met: &mut Met) {
         }
         assert!(sheet == expected);
         assert_eq!(captions::list(&sheet), reference::listing(&sheet));
+        let fault = captions::first_fault(&sheet).map(|fault| fault.numbers());
+        assert_eq!(
+            fault,
+            reference::first_fault(&sheet).map(|fault| fault.numbers())
+        );
         // A sheet that a changed byte made unfit or worn is begun anew.
         if !reference::fit(&sheet) && random.below(2) == 0 {
             sheet = edition.blank_sheet(slots, key_words);
@@ -324,7 +343,7 @@ fn dated_reads_of_a_sheet(random: &mut Random, edition: Edition, met: &mut Met) 
         let (mut window, mut expected) = (vec![7; length], vec![7; length]);
         let answer =
             captions::dated_read(&sealing, &checking, &sheet, &terms, slot, day, &mut window);
-        met.compare(
+        met.compare_pointed(
             answer,
             reference::dated_read(
                 &sealing,

@@ -2,8 +2,8 @@
 //! in which a term sheet is unfit, and the order of the tests.
 
 use captions::{
-    blank, date_of_day, dated_read, day_of_date, read, sheet_len, terms_len, write, Date, Refusal,
-    FIELD, LAST_DAY,
+    blank, date_of_day, dated_read, day_of_date, read, sheet_len, terms_len, write, Change, Date,
+    Fault, Refusal, FIELD, LAST_DAY,
 };
 
 // ---- Dates ----
@@ -205,7 +205,7 @@ fn a_term_sheet_has_the_sheets_slots_its_length_and_no_day_past_the_last() {
             terms,
             ..call.clone()
         };
-        assert_eq!(refused.run(), Err(Refusal::UnfitSheet));
+        assert_eq!(refused.run(), Err(Refusal::UnfitSheet(Fault::Terms)));
     };
     for length in 0..call.terms.len() {
         unfit(&call.terms[..length]);
@@ -247,14 +247,14 @@ fn the_largest_term_sheet() {
     call.day = usize::from(CLOSING) + 1;
     assert_eq!(call.run(), Err(Refusal::NotOnShow));
     call.terms[2 + 2 * 511] = 0xff;
-    assert_eq!(call.run(), Err(Refusal::UnfitSheet));
+    assert_eq!(call.run(), Err(Refusal::UnfitSheet(Fault::Terms)));
 }
 
 /// A way in which a dated read is refused, with the refusal.
-type Fault = (Refusal, fn(&mut Call));
+type Way = (Refusal, fn(&mut Call));
 
 /// In the order of the tests.
-const FAULTS: [Fault; 12] = [
+const FAULTS: [Way; 12] = [
     (Refusal::WrongKey, |call| {
         call.sealing = vec![1; 7];
         call.checking = vec![2; 7];
@@ -263,9 +263,13 @@ const FAULTS: [Fault; 12] = [
         call.checking = call.sealing.clone()
     }),
     (Refusal::WrongSpan, |call| call.window = 191),
-    (Refusal::UnfitSheet, |call| call.sheet[3] = 255),
-    // The term sheet.
-    (Refusal::UnfitSheet, |call| call.terms[2..4].fill(255)),
+    (
+        Refusal::UnfitSheet(Fault::Edition { edition: 255 }),
+        |call| call.sheet[3] = 255,
+    ),
+    (Refusal::UnfitSheet(Fault::Terms), |call| {
+        call.terms[2..4].fill(255)
+    }),
     (Refusal::OtherKeyClass, |call| {
         call.sealing = vec![1; 12];
         call.checking = vec![2; 12];
@@ -275,7 +279,7 @@ const FAULTS: [Fault; 12] = [
     (Refusal::NoSuchSlot, |call| call.slot = SLOTS),
     (Refusal::Blank, |call| call.slot = 2),
     (Refusal::NotOnShow, |call| call.day = 0),
-    (Refusal::Altered, |call| {
+    (Refusal::Altered(Change::Check { slot: 1 }), |call| {
         let field = sheet_len(SLOTS) - 2 * FIELD;
         call.sheet[field] = call.sheet[field].wrapping_add(1);
     }),

@@ -44,6 +44,20 @@ static int is(captions_answer answer, int number, int length)
     return answer.number == number && answer.length == length;
 }
 
+/* Number and length of an answer that points. One that is neither 4 nor 10
+ * points at nothing. */
+static captions_answer plain(captions_pointed pointed)
+{
+    captions_answer answer;
+    answer.number = pointed.number;
+    answer.length = pointed.length;
+    CHECK(pointed.number == CAPTIONS_UNFIT_SHEET ||
+          pointed.number == CAPTIONS_ALTERED
+              ? pointed.rule != CAPTIONS_RULE_NONE
+              : pointed.rule == 0 && pointed.slot == 0 && pointed.place == 0);
+    return answer;
+}
+
 static int refused(captions_answer answer, int number)
 {
     return is(answer, number, 0);
@@ -215,16 +229,16 @@ static size_t size_of(const uint8_t *sheet)
 static captions_answer write_as(uint8_t *sheet, size_t key_len, size_t slot,
                                 const void *caption, size_t length)
 {
-    return captions_write(sealing, key_len, checking, key_len, sheet,
-                          size_of(sheet), slot, (const uint8_t *)caption,
-                          length);
+    return plain(captions_write(sealing, key_len, checking, key_len, sheet,
+                                size_of(sheet), slot,
+                                (const uint8_t *)caption, length));
 }
 
 static captions_answer read_as(const uint8_t *sheet, size_t key_len,
                                size_t slot, uint8_t *window)
 {
-    return captions_read(sealing, key_len, checking, key_len, sheet,
-                         size_of(sheet), slot, window, CAPTIONS_FIELD);
+    return plain(captions_read(sealing, key_len, checking, key_len, sheet,
+                               size_of(sheet), slot, window, CAPTIONS_FIELD));
 }
 
 static captions_answer blank_as(uint8_t *sheet, size_t sheet_len, size_t slots,
@@ -361,20 +375,20 @@ static void write_refusals(const struct edition *edition)
     size_t size = edition->size;
     make_sheet(edition, sheet);
     memcpy(before, sheet, size);
-    CHECK(refused(captions_write(sealing, 7, checking, 7, sheet, size, 0,
-                                 overlong, 1),
+    CHECK(refused(plain(captions_write(sealing, 7, checking, 7, sheet, size, 0,
+                                       overlong, 1)),
                   CAPTIONS_WRONG_KEY));
-    CHECK(refused(captions_write(sealing, 8, checking, 12, sheet, size, 0,
-                                 overlong, 1),
+    CHECK(refused(plain(captions_write(sealing, 8, checking, 12, sheet, size, 0,
+                                       overlong, 1)),
                   CAPTIONS_WRONG_KEY));
-    CHECK(refused(captions_write(sealing, 8, sealing, 8, sheet, size, 0,
-                                 overlong, 1),
+    CHECK(refused(plain(captions_write(sealing, 8, sealing, 8, sheet, size, 0,
+                                       overlong, 1)),
                   CAPTIONS_TWIN_KEYS));
-    CHECK(refused(captions_write(sealing, 8, checking, 8, sheet, size - 1, 0,
-                                 overlong, 1),
+    CHECK(refused(plain(captions_write(sealing, 8, checking, 8, sheet,
+                                       size - 1, 0, overlong, 1)),
                   CAPTIONS_UNFIT_SHEET));
-    CHECK(refused(captions_write(sealing, 8, checking, 8, sheet, 0, 0,
-                                 overlong, 1),
+    CHECK(refused(plain(captions_write(sealing, 8, checking, 8, sheet, 0, 0,
+                                       overlong, 1)),
                   CAPTIONS_UNFIT_SHEET));
     CHECK(refused(write_as(sheet, 12, 0, "x", 1), CAPTIONS_OTHER_KEY_CLASS));
     CHECK(refused(write_as(sheet, 8, SLOTS, "x", 1), CAPTIONS_NO_SUCH_SLOT));
@@ -414,9 +428,9 @@ static int read_refused(int number, const uint8_t *sealing_key,
     uint8_t window[CAPTIONS_FIELD + 2];
     captions_answer answer;
     memset(window, UNTOUCHED, sizeof window);
-    answer = captions_read(sealing_key, sealing_len, checking_key,
-                           checking_len, sheet, sheet_len, slot, window,
-                           window_len);
+    answer = plain(captions_read(sealing_key, sealing_len, checking_key,
+                                 checking_len, sheet, sheet_len, slot, window,
+                                 window_len));
     return refused(answer, number) && all(window, window_len, 0) &&
            all(window + window_len, sizeof window - window_len, UNTOUCHED);
 }
@@ -544,9 +558,9 @@ static int dated_refused(int number, size_t key_len, const uint8_t *other_key,
     uint8_t window[CAPTIONS_FIELD + 2];
     captions_answer answer;
     memset(window, UNTOUCHED, sizeof window);
-    answer = captions_dated_read(sealing, key_len, other_key, key_len, sheet,
-                                 sheet_len, terms, terms_len, slot, day,
-                                 window, window_len);
+    answer = plain(captions_dated_read(sealing, key_len, other_key, key_len,
+                                       sheet, sheet_len, terms, terms_len,
+                                       slot, day, window, window_len));
     return refused(answer, number) && all(window, window_len, 0) &&
            all(window + window_len, sizeof window - window_len, UNTOUCHED);
 }
@@ -556,9 +570,9 @@ static int shown(const uint8_t *sheet, const uint8_t *terms, size_t day)
     uint8_t window[CAPTIONS_FIELD];
     captions_answer answer;
     memset(window, UNTOUCHED, sizeof window);
-    answer = captions_dated_read(sealing, 8, checking, 8, sheet,
-                                 size_of(sheet), terms, TERMS, 1, day, window,
-                                 sizeof window);
+    answer = plain(captions_dated_read(sealing, 8, checking, 8, sheet,
+                                       size_of(sheet), terms, TERMS, 1, day,
+                                       window, sizeof window));
     return is(answer, CAPTIONS_ACCEPTED, 5) &&
            memcmp(window, "Clock", 5) == 0 && all(window + 5, 187, 0);
 }
@@ -651,8 +665,8 @@ static int unfit(const uint8_t *bytes, size_t size)
                         size, 1, 192) &&
            dated_refused(CAPTIONS_UNFIT_SHEET, 8, checking, sheet, size, terms,
                          TERMS, 1, OPENING, 192) &&
-           refused(captions_write(sealing, 8, checking, 8, sheet, size, 1,
-                                  sealing, 1),
+           refused(plain(captions_write(sealing, 8, checking, 8, sheet, size,
+                                        1, sealing, 1)),
                    CAPTIONS_UNFIT_SHEET) &&
            refused(captions_clear(sheet, size, 1), CAPTIONS_UNFIT_SHEET) &&
            captions_list(sheet, size, out, sizeof out) == sizeof out &&
@@ -736,6 +750,78 @@ static void listing(void)
     CHECK(memcmp(text, "unfit\n", 6) == 0);
 }
 
+/* ---- What a refusal points at ---- */
+
+static int points(captions_pointed answer, int rule, int slot, int place)
+{
+    int number = rule < CAPTIONS_RULE_CHECK || rule == CAPTIONS_RULE_TERMS
+                     ? CAPTIONS_UNFIT_SHEET
+                     : CAPTIONS_ALTERED;
+    return answer.number == number && answer.length == 0 &&
+           answer.rule == rule && answer.slot == slot &&
+           answer.place == place;
+}
+
+static captions_pointed read_of(const uint8_t *sheet, size_t size)
+{
+    uint8_t window[CAPTIONS_FIELD];
+    return captions_read(sealing, 8, checking, 8, sheet, size, 1, window,
+                         sizeof window);
+}
+
+/* Whether a read and a write of these bytes point there. */
+static int broken(uint8_t *sheet, size_t size, int rule, int slot, int place)
+{
+    return points(read_of(sheet, size), rule, slot, place) &&
+           points(captions_write(sealing, 8, checking, 8, sheet, size, 1,
+                                 sealing, 1),
+                  rule, slot, place);
+}
+
+/* One byte changed, and put back. */
+static int broken_at(uint8_t *sheet, size_t size, size_t byte, int value,
+                     int rule, int slot, int place)
+{
+    uint8_t old = sheet[byte];
+    int so;
+    sheet[byte] = (uint8_t)value;
+    so = broken(sheet, size, rule, slot, place);
+    sheet[byte] = old;
+    return so;
+}
+
+static void pointing(const struct edition *edition)
+{
+    uint8_t sheet[SHEET], terms[TERMS], window[CAPTIONS_FIELD];
+    size_t size = edition->size, mark = edition->header + CAPTIONS_MARK, i;
+    make_sheet(edition, sheet);
+    make_terms(terms);
+    CHECK(broken(sheet, 7, CAPTIONS_RULE_SHORT, 0, 0));
+    CHECK(broken(sheet, 0, CAPTIONS_RULE_SHORT, 0, 0));
+    CHECK(broken(sheet, 8, CAPTIONS_RULE_LENGTH, 0, 0));
+    CHECK(broken(sheet, size - 1, CAPTIONS_RULE_LENGTH, 0, 0));
+    CHECK(broken_at(sheet, size, 1, 0, CAPTIONS_RULE_SLOTS, 0, 0));
+    CHECK(broken_at(sheet, size, 2, 5, CAPTIONS_RULE_KEY_WORDS, 0, 0));
+    CHECK(broken_at(sheet, size, 3, 9, CAPTIONS_RULE_EDITION, 0, 0));
+    for (i = CAPTIONS_HEADER - 6; i < edition->header; i++) {
+        CHECK(broken_at(sheet, size, i, 1, CAPTIONS_RULE_HEADER_BYTE, 0,
+                        (int)i));
+        CHECK(broken_at(sheet, i + 1, i, 1, CAPTIONS_RULE_HEADER_BYTE, 0,
+                        (int)i));
+        CHECK(broken_at(sheet, i, i, 1, CAPTIONS_RULE_LENGTH, 0, 0));
+    }
+    CHECK(broken_at(sheet, size, mark, 1, CAPTIONS_RULE_NUMBER, 1, 0));
+    CHECK(broken_at(sheet, size, mark + 4, 1, CAPTIONS_RULE_CAPTION, 1, 0));
+    CHECK(broken_at(sheet, size, mark + 6, 1, CAPTIONS_RULE_MARK_BYTE, 1, 6));
+    CHECK(broken_at(sheet, size, mark + 7, 1, CAPTIONS_RULE_MARK_BYTE, 1, 7));
+    CHECK(points(captions_dated_read(sealing, 8, checking, 8, sheet, size,
+                                     terms, TERMS - 1, 1, OPENING, window,
+                                     sizeof window),
+                 CAPTIONS_RULE_TERMS, 0, 0));
+    sheet[mark + 8] ^= 1;
+    CHECK(points(read_of(sheet, size), CAPTIONS_RULE_CHECK, 1, 0));
+}
+
 static void words(void)
 {
     static const char *const word[] = CAPTIONS_WORDS;
@@ -749,6 +835,11 @@ static void words(void)
     CHECK(strcmp(word[CAPTIONS_NO_SUCH_ROUND], "no such round") == 0);
     CHECK(sizeof(captions_answer) == 4);
     CHECK(offsetof(captions_answer, length) == 2);
+    CHECK(sizeof(captions_pointed) == 8);
+    CHECK(offsetof(captions_pointed, rule) == 1);
+    CHECK(offsetof(captions_pointed, length) == 2);
+    CHECK(offsetof(captions_pointed, slot) == 4);
+    CHECK(offsetof(captions_pointed, place) == 6);
     CHECK(sizeof(captions_day) == 4 && offsetof(captions_day, day) == 2);
     CHECK(sizeof(captions_date) == 6 && offsetof(captions_date, year) == 2);
     CHECK(offsetof(captions_date, month) == 4);
@@ -769,6 +860,7 @@ static void sheets_of(const struct edition *edition)
     dated_reads(edition);
     dated_read_refusals(edition);
     edition_rules(edition);
+    pointing(edition);
 }
 
 int main(void)

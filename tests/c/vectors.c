@@ -112,9 +112,12 @@ static void print_write_with(const struct keys *keys, const uint8_t *checking,
                              uint8_t *sheet, size_t slot, const void *caption,
                              size_t length)
 {
-    captions_answer answer = captions_write(
+    captions_pointed pointed = captions_write(
         keys->sealing, keys->length, checking, keys->length, sheet,
         size_of(sheet), slot, (const uint8_t *)caption, length);
+    captions_answer answer;
+    answer.number = pointed.number;
+    answer.length = pointed.length;
     print_call("write", answer, keys, sheet);
 }
 
@@ -138,7 +141,7 @@ static void print_read(const struct keys *keys, const uint8_t *checking,
                        const uint8_t *sheet, size_t slot)
 {
     uint8_t window[CAPTIONS_FIELD];
-    captions_answer answer;
+    captions_pointed answer;
     memset(window, 0xff, sizeof window);
     answer = captions_read(keys->sealing, keys->length, checking,
                            keys->length, sheet, size_of(sheet), slot, window,

@@ -168,7 +168,7 @@ fn verify_tells_sound_blank_and_altered_slots() {
     assert_eq!(verified.stderr, "10 altered\n");
     assert_eq!(
         String::from_utf8(verified.stdout).unwrap(),
-        "0 blank\n1 altered\n2 blank\n3 sound 192\nslots 4 sound 1 blank 2 altered 1\n",
+        "0 blank\n1 altered: the check differs\n2 blank\n3 sound 192\nslots 4 sound 1 blank 2 altered 1\n",
     );
 }
 

@@ -36,9 +36,9 @@ fn a_verification_as_json() {
     fs::write(&file, &sheet).unwrap();
     run(&words!["verify", file, keys, "--json"]).printed(
         br#"{"slots":3,"key":64,"last":2,"sound":2,"blank":1,"altered":0,"list":[
-{"slot":0,"state":"blank","write":null,"length":null},
-{"slot":1,"state":"sound","write":1,"length":5},
-{"slot":2,"state":"sound","write":2,"length":4}
+{"slot":0,"state":"blank","write":null,"length":null,"reason":null},
+{"slot":1,"state":"sound","write":1,"length":5,"reason":null},
+{"slot":2,"state":"sound","write":2,"length":4,"reason":null}
 ]}
 "#,
     );
@@ -49,9 +49,9 @@ fn a_verification_as_json() {
     assert_eq!(
         String::from_utf8(run.stdout).unwrap(),
         r#"{"slots":3,"key":64,"last":2,"sound":1,"blank":1,"altered":1,"list":[
-{"slot":0,"state":"blank","write":null,"length":null},
-{"slot":1,"state":"altered","write":null,"length":null},
-{"slot":2,"state":"sound","write":2,"length":4}
+{"slot":0,"state":"blank","write":null,"length":null,"reason":null},
+{"slot":1,"state":"altered","write":null,"length":null,"reason":"the check differs"},
+{"slot":2,"state":"sound","write":2,"length":4,"reason":null}
 ]}
 "#
     );
@@ -78,6 +78,7 @@ fn json_says_what_the_text_says() {
         let plain = |line: &str| {
             let line = line.replace("\"slot\":", "").replace("\"state\":", "");
             let line = line.replace("\"write\":", "").replace("\"length\":", "");
+            let line = line.replace(",\"reason\":null", "");
             let words = line.trim_end_matches(',').trim_matches(['{', '}']);
             let words = words.replace(",null,null", "");
             words.replace('"', "").replace(',', " ")

@@ -236,6 +236,43 @@ fn worn() {
     run(&words!["read", file, "0", keys]).refused(9, "blank");
 }
 
+/// A torn tag and a wrong file look different.
+#[test]
+fn an_unfit_sheet_points_at_its_first_fault() {
+    let scratch = Scratch::new();
+    let (file, keys) = (scratch.join("sheet"), scratch.keys(8));
+    let sheet = written(&blank_sheet(4, 4), 8, 3, b"Clock");
+    let mut length = sheet.clone();
+    length[EDITION.mark_place(3).start + 4] = 1;
+    let cases = [
+        (
+            sheet[..212].to_vec(),
+            "unfit sheet: 212 bytes, where 4 slots have 848",
+        ),
+        (
+            b"Lender,Bronze\n".to_vec(),
+            "unfit sheet: 19557 slots, where a sheet has 1 to 256 (bytes 0 and 1)",
+        ),
+        (
+            length,
+            "unfit sheet: slot 3: length above 192 (bytes 68 and 69)",
+        ),
+        (
+            vec![0; 5],
+            "unfit sheet: 5 bytes, where a sheet has at least 8",
+        ),
+    ];
+    for (sheet, words) in cases {
+        fs::write(&file, sheet).unwrap();
+        let read = words!["read", file, "0", keys];
+        refused(&read, b"", &file, 4, words);
+        refused(&words!["write", file, "0", keys], b"Vase", &file, 4, words);
+        refused(&words!["clear", file, "0"], b"", &file, 4, words);
+        refused(&words!["verify", file, keys], b"", &file, 4, words);
+        refused(&words!["export", file, keys], b"", &file, 4, words);
+    }
+}
+
 #[test]
 fn blank() {
     let scratch = Scratch::new();
@@ -254,7 +291,8 @@ fn altered() {
         let mut sheet = sheet.clone();
         sheet[place] ^= 2;
         fs::write(&file, &sheet).unwrap();
-        refused(&words!["read", file, "1", keys], b"", &file, 10, "altered");
+        let words = "altered: the check differs";
+        refused(&words!["read", file, "1", keys], b"", &file, 10, words);
     }
     // The keys the wrong way round; a slot moved to another place.
     fs::write(&file, &sheet).unwrap();

@@ -184,10 +184,25 @@ impl Run {
         self.printed(b"");
     }
 
-    /// Refused: number and word alone.
+    /// Refused: number and word on the last line. Before it stands the rule that
+    /// gave an unfit sheet or an altered slot, whichever it is if the words name
+    /// none; else nothing.
     #[track_caller]
-    pub fn refused(self, number: i32, word: &str) {
-        assert_eq!(self.stderr, format!("{number} {word}\n"));
+    pub fn refused(self, number: i32, words: &str) {
+        let word = words.split(": ").next().unwrap();
+        let last = format!("{number} {word}\n");
+        match (number, word == words) {
+            (4 | 10, true) => {
+                let rule = self.stderr.strip_suffix(&last);
+                let rule = rule.and_then(|rule| rule.strip_prefix("captions: "));
+                let rule = rule.and_then(|rule| rule.strip_prefix(word));
+                let rule = rule.and_then(|rule| rule.strip_prefix(": "));
+                let lines = rule.map(|rule| rule.matches('\n').count());
+                assert_eq!(lines, Some(1), "{}", self.stderr);
+            }
+            (_, true) => assert_eq!(self.stderr, last),
+            (_, false) => assert_eq!(self.stderr, format!("captions: {words}\n{last}")),
+        }
         assert_eq!((self.status, self.stdout.as_slice()), (number, &b""[..]));
     }
 

@@ -389,7 +389,7 @@ fn altered_slots() {
     assert_eq!(run.status, 10);
     assert_eq!(
         run.stderr,
-        "captions: slot 1 is altered and not in the table\n10 altered\n"
+        "captions: slot 1 is altered and not in the table: the check differs\n10 altered\n"
     );
     let table = "slot\ttext\n0\tVase with cranes\n2\t\\&\n";
     assert_eq!(String::from_utf8(run.stdout).unwrap(), table);
@@ -398,12 +398,12 @@ fn altered_slots() {
     place.refuses(
         "slot\ttext\n0\tA\n1\tB\n",
         10,
-        "captions: standard input: line 3, slot 1\n10 altered\n",
+        "captions: standard input: line 3, slot 1: altered: the check differs\n10 altered\n",
     );
     place.refuses(
         "slot\ttext\n0\tA\n1\t\n",
         10,
-        "captions: standard input: line 3, slot 1\n10 altered\n",
+        "captions: standard input: line 3, slot 1: altered: the check differs\n10 altered\n",
     );
     let other = place.scratch.key_file("other", &[7; 8], &[8; 8]);
     let import = words!["import", place.file, other, "--clear"];

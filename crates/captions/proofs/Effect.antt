@@ -18,7 +18,7 @@ use Rattle.modes.specs.Laws.{ByteBlocks}
 use Rattle.layout.specs.Layout.{Edition, slots, lastWrite, blankSlot, storeSlot, storeLast}
 use Rattle.layout.proofs.Fits.{Rules, fit-rules, rules-fit}
 use Rattle.captions.specs.Answers.{firstOf}
-use Rattle.captions.specs.Captions.{Keys, Ciphers, padded, sealedField, openedField, checkOf, slotMark, storedAs, written, opened, altered, cleared}
+use Rattle.captions.specs.Captions.{Keys, Ciphers, padded, sealedField, openedField, checkOf, slotMark, storedAs, written, opened, altered, change, cleared}
 use Rattle.captions.specs.Calls.{keyTests, otherClass, classTests, pairTests, sheetTests, windowTests, openTests, readTests, readingWith}
 use Rattle.captions.specs.Model.{Page, blank, holds}
 use Rattle.captions.specs.Claim.{SameHeader, Regular, Sound, Fits, shown}
@@ -102,7 +102,7 @@ module _ (e : Edition) (reg : Regular e) (x : Ciphers) (k : Keys) (s : List ℕ)
     stored-others g′ i h d window l =
         decided-past-both (windowTests e x k s′ i (length window)) (windowTests e x k s i (length window)) _ _ _ _ _ _
         (read-passed e x k s′ g′ i window (omega (arith, slots-kept (st .header))) l) (read-passed e x k s g i window h l)
-        (unfold blankSlot altered opened in rw (st .mark-other i h d, st .field-other i h d, reg .tail-kept s s′ (st .header)))
+        (unfold blankSlot altered change opened in rw (st .mark-other i h d, st .field-other i h d, reg .tail-kept s s′ (st .header)))
 
   -- a clear
   pub clear-effect : (j : ℕ) → j < slots s → Effect e x k j (lastWrite s) blank s (cleared e s j)

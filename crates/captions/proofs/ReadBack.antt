@@ -16,8 +16,9 @@ use Rattle.octets.proofs.Parts.{length-part, part-all, part-add}
 use Rattle.octets.proofs.Zeros.{allZero-is}
 use Rattle.modes.specs.Laws.{ByteBlocks}
 use Rattle.layout.specs.Layout.{Edition, slots, lastWrite, markNumber, markLength, markCheck, markAt, fieldAt, mark, field, blankSlot, fitIn}
+use Rattle.faults.specs.Faults.{firstFault}
 use Rattle.captions.specs.Answers.{Outcome, answerNumber, answerLength, outcome}
-use Rattle.captions.specs.Captions.{Keys, Ciphers, padded, newMark, startBlock, sealedField, openedField, checkOf, slotMark, opened, altered}
+use Rattle.captions.specs.Captions.{Keys, Ciphers, padded, newMark, startBlock, sealedField, openedField, checkOf, slotMark, opened, altered, change}
 use Rattle.captions.specs.Calls.{keyTests, otherClass, classTests, sheetTests, windowTests, openTests, readTests, readingWith}
 use Rattle.captions.specs.Claim.{Sound}
 use Rattle.captions.specs.declared.Answer.{Answer}
@@ -60,8 +61,8 @@ accepted-read e x k s i n window v h = go unmet
     unmet : Unmet (readTests e x k s i window)
     unmet =
         decided-accepted (readTests e x k s i window) (outcome (Accepted (markLength (mark e s i))) (opened x e s i)) (λ a. outcome a (zeros (length window))) (outcome (Accepted n) v)
-        (next (no WrongKey (lit≤ tt)) (next (no TwinKeys (lit≤ tt)) (next (no WrongSpan (lit≤ tt)) (next (no UnfitSheet (lit≤ tt)) (next (no OtherKeyClass (lit≤ tt))
-        (next (no NoSuchSlot (lit≤ tt)) (next (no Blank (lit≤ tt)) (next (no Altered (lit≤ tt)) end)))))))) h
+        (next (no WrongKey (lit≤ tt)) (next (no TwinKeys (lit≤ tt)) (next (no WrongSpan (lit≤ tt)) (next (no (UnfitSheet (firstFault s)) (lit≤ tt)) (next (no OtherKeyClass (lit≤ tt))
+        (next (no NoSuchSlot (lit≤ tt)) (next (no Blank (lit≤ tt)) (next (no (Altered i (change x e s i)) (lit≤ tt)) end)))))))) h
 
     is : outcome (Accepted (markLength (mark e s i))) (opened x e s i) ≡ outcome (Accepted n) v
     is = sym (decided-unmet (readTests e x k s i window) _ _ unmet) ∙ h

@@ -191,13 +191,13 @@ refusal-length (Accepted n) h = absurd (h refl)
 refusal-length WrongKey h = refl
 refusal-length TwinKeys h = refl
 refusal-length WrongSpan h = refl
-refusal-length UnfitSheet h = refl
+refusal-length (UnfitSheet f) h = refl
 refusal-length OtherKeyClass h = refl
 refusal-length NoSuchSlot h = refl
 refusal-length Overlong h = refl
 refusal-length Worn h = refl
 refusal-length Blank h = refl
-refusal-length Altered h = refl
+refusal-length (Altered i c) h = refl
 
 pub leaves : (a : Answer) (bytes : List ℕ) → (answerNumber a ≡ 0 → ⊥) → Leaves (outcome a bytes) bytes
 unfolding outcome

@@ -16,6 +16,7 @@ use Rattle.octets.proofs.Zeros.{length-zeros}
 use Rattle.modes.specs.Laws.{ByteBlocks}
 use Rattle.layout.specs.Layout.{Edition, slots, lastWrite, markAt, fieldAt, mark, field, fitIn, storeSlot, storeLast}
 use Rattle.layout.proofs.Fits.{Rules, fit-rules, mark-end, field-end}
+use Rattle.faults.specs.Faults.{firstFault}
 use Rattle.captions.specs.Answers.{Outcome, answerNumber, answerLength, outcome}
 use Rattle.captions.specs.Captions.{Keys, Ciphers, sealedField, slotMark, storedAs, written, cleared}
 use Rattle.captions.specs.Calls.{keyTests, otherClass, classTests, sheetTests, captionTests, writeTests, clearTests, writingWith, clearingWith}
@@ -75,7 +76,7 @@ accepted-write e x k s i c n s′ h = go unmet
     unmet : Unmet (writeTests e x k s i c)
     unmet =
         decided-accepted (writeTests e x k s i c) (outcome (Accepted 0) (written x e s i c)) (λ a. outcome a s) (outcome (Accepted n) s′)
-        (next (no WrongKey (lit≤ tt)) (next (no TwinKeys (lit≤ tt)) (next (no UnfitSheet (lit≤ tt)) (next (no OtherKeyClass (lit≤ tt))
+        (next (no WrongKey (lit≤ tt)) (next (no TwinKeys (lit≤ tt)) (next (no (UnfitSheet (firstFault s)) (lit≤ tt)) (next (no OtherKeyClass (lit≤ tt))
         (next (no NoSuchSlot (lit≤ tt)) (next (no Overlong (lit≤ tt)) (next (no Worn (lit≤ tt)) end))))))) h
 
     is : outcome (Accepted n) s′ ≡ outcome (Accepted 0) (written x e s i c)
@@ -178,7 +179,7 @@ accepted-clear e s i n s′ h = go unmet
     unmet : Unmet (clearTests e s i)
     unmet =
         decided-accepted (clearTests e s i) (outcome (Accepted 0) (cleared e s i)) (λ a. outcome a s) (outcome (Accepted n) s′)
-        (next (no UnfitSheet (lit≤ tt)) (next (no NoSuchSlot (lit≤ tt)) end)) h
+        (next (no (UnfitSheet (firstFault s)) (lit≤ tt)) (next (no NoSuchSlot (lit≤ tt)) end)) h
 
     is : outcome (Accepted n) s′ ≡ outcome (Accepted 0) (cleared e s i)
     is = sym h ∙ decided-unmet (clearTests e s i) _ _ unmet

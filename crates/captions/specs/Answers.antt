@@ -1,16 +1,20 @@
--- The answers of the calls on a sheet: their numbers, words and lengths (document 01, "What the kiosk shows instead of a caption").
+-- The answers of the calls on a sheet: their numbers, words and lengths (document 01, "What the kiosk shows instead of a caption"), and what they point at (document 02, request 5).
 use Prim.Native.Nat.{ℕ}
 use mathlib.Core.List.{List}
 use Rattle.octets.specs.Outcome.{Row, decided}
+use Rattle.faults.specs.Faults.{Point, point, faultPoint}
+use Rattle.captions.specs.declared.Change.{Change}
+use Rattle.captions.specs.declared.Change.the-variants.{Check, Byte}
 use Rattle.captions.specs.declared.Answer.{Answer}
 use Rattle.captions.specs.declared.Answer.the-variants.{Accepted, WrongKey, TwinKeys, WrongSpan, UnfitSheet, OtherKeyClass, NoSuchSlot, Overlong, Worn, Blank, Altered}
 use Rattle.captions.specs.declared.Verdict.{Verdict}
 use Rattle.captions.specs.declared.Verdict.the-variants.{Pass, Refuse}
 
--- what a call on a sheet answers and leaves behind: the paper's number (0 is accepted), the paper's length, the lent bytes after the call
+-- what a call on a sheet answers and leaves behind: the paper's number (0 is accepted), the paper's length, what a refusal points at, the lent bytes after the call
 pub record Outcome : Type 0 where
   pub number : ℕ
   pub len : ℕ
+  pub points : Point
   pub bytes : List ℕ
 
 -- the paper's number of each answer: 0 is accepted
@@ -19,13 +23,13 @@ answerNumber (Accepted n) = 0
 answerNumber WrongKey = 1
 answerNumber TwinKeys = 2
 answerNumber WrongSpan = 3
-answerNumber UnfitSheet = 4
+answerNumber (UnfitSheet f) = 4
 answerNumber OtherKeyClass = 5
 answerNumber NoSuchSlot = 6
 answerNumber Overlong = 7
 answerNumber Worn = 8
 answerNumber Blank = 9
-answerNumber Altered = 10
+answerNumber (Altered i c) = 10
 
 -- the paper's length of each answer: 0 except for an accepted read
 unfoldable pub answerLength : Answer → ℕ
@@ -33,17 +37,36 @@ answerLength (Accepted n) = n
 answerLength WrongKey = 0
 answerLength TwinKeys = 0
 answerLength WrongSpan = 0
-answerLength UnfitSheet = 0
+answerLength (UnfitSheet f) = 0
 answerLength OtherKeyClass = 0
 answerLength NoSuchSlot = 0
 answerLength Overlong = 0
 answerLength Worn = 0
 answerLength Blank = 0
-answerLength Altered = 0
+answerLength (Altered i c) = 0
+
+-- what differs in slot i
+unfoldable pub changePoint : ℕ → Change → Point
+changePoint i Check = point 10 i 0
+changePoint i (Byte j) = point 11 i j
+
+-- what an answer points at: rule, slot and place, which are 0 but for 4 and 10
+unfoldable pub answerPoint : Answer → Point
+answerPoint (Accepted n) = point 0 0 0
+answerPoint WrongKey = point 0 0 0
+answerPoint TwinKeys = point 0 0 0
+answerPoint WrongSpan = point 0 0 0
+answerPoint (UnfitSheet f) = faultPoint f
+answerPoint OtherKeyClass = point 0 0 0
+answerPoint NoSuchSlot = point 0 0 0
+answerPoint Overlong = point 0 0 0
+answerPoint Worn = point 0 0 0
+answerPoint Blank = point 0 0 0
+answerPoint (Altered i c) = changePoint i c
 
 -- an answer and the lent bytes after the call
 unfoldable pub outcome : Answer → List ℕ → Outcome
-outcome a bytes = record { number = answerNumber a; len = answerLength a; bytes = bytes }
+outcome a bytes = record { number = answerNumber a; len = answerLength a; points = answerPoint a; bytes = bytes }
 
 -- what a table of tests comes to by itself
 unfoldable pub firstOf : List (Row Answer) → Verdict

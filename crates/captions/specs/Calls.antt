@@ -8,8 +8,9 @@ use Rattle.octets.specs.Bytes.{zeros, same}
 use Rattle.octets.specs.Outcome.{Row, _gives_, decided}
 use Rattle.cipher.specs.Key.{classKnown, keyBytes, sheetKeyLength}
 use Rattle.layout.specs.Layout.{Edition, newEdition, editionOf, slots, keyClass, lastWrite, sheetSize, slotCount, markLength, mark, blankSlot, fitIn, blankSheet}
+use Rattle.faults.specs.Faults.{firstFault}
 use Rattle.captions.specs.Answers.{Outcome, outcome}
-use Rattle.captions.specs.Captions.{Keys, Ciphers, loadedFor, written, cleared, opened, altered}
+use Rattle.captions.specs.Captions.{Keys, Ciphers, loadedFor, written, cleared, opened, altered, change}
 use Rattle.captions.specs.declared.Answer.{Answer}
 use Rattle.captions.specs.declared.Answer.the-variants.{Accepted, WrongKey, TwinKeys, WrongSpan, UnfitSheet, OtherKeyClass, NoSuchSlot, Overlong, Worn, Blank, Altered}
 
@@ -37,7 +38,7 @@ spanRow n = not (eqb n 192) gives WrongSpan
 
 -- 4, 5 and 6
 abbrev pub unfitRow : Edition → List ℕ → Row Answer
-unfitRow e s = not (fitIn e s) gives UnfitSheet
+unfitRow e s = not (fitIn e s) gives UnfitSheet (firstFault s)
 
 abbrev pub classRow : Keys → List ℕ → Row Answer
 classRow k s = otherClass k s gives OtherKeyClass
@@ -57,7 +58,7 @@ abbrev pub blankRow : Edition → List ℕ → ℕ → Row Answer
 blankRow e s i = blankSlot e s i gives Blank
 
 abbrev pub alteredRow : Ciphers → Edition → List ℕ → ℕ → Row Answer
-alteredRow x e s i = altered x e s i gives Altered
+alteredRow x e s i = altered x e s i gives Altered i (change x e s i)
 
 -- ---- the tests of each call, in order
 

@@ -3,11 +3,14 @@ use Prim.Native.Nat.{ℕ, _+_, _-_}
 use mathlib.Core.Bool.{Bool, not, _||_}
 use mathlib.Core.List.{List, _++_}
 use lib.ListN.{length, drop}
-use Rattle.octets.specs.Bytes.{be, zeros, allZero, same}
+use Rattle.octets.specs.Bytes.{if_then_else_, be, zeros, allZero, same}
 use Rattle.cipher.specs.Key.{loaded, encrypted, decrypted}
 use Rattle.modes.specs.CBC.{cbcEncrypt, cbcDecrypt}
 use Rattle.modes.specs.CMAC.{cmac}
 use Rattle.layout.specs.Layout.{Edition, lastWrite, markNumber, markLength, markCheck, mark, field, storeSlot, storeLast}
+use Rattle.faults.specs.Faults.{firstSet}
+use Rattle.captions.specs.declared.Change.{Change}
+use Rattle.captions.specs.declared.Change.the-variants.{Check, Byte}
 
 -- the sealing and the checking key, as bytes
 pub record Keys : Type 0 where
@@ -83,6 +86,13 @@ module _ (x : Ciphers) where
     altered s i =
         not (same (checkOf (markNumber (mark e s i)) i (markLength (mark e s i)) (field e s i)) (markCheck (mark e s i)))
         || not (allZero (drop (markLength (mark e s i)) (opened s i)))
+
+    -- what of an altered slot differs: the check, or else the first opened byte at or past the length that isn't zero
+    unfoldable pub change : List ℕ → ℕ → Change
+    change s i =
+        if same (checkOf (markNumber (mark e s i)) i (markLength (mark e s i)) (field e s i)) (markCheck (mark e s i))
+        then Byte (firstSet (opened s i) (markLength (mark e s i)) (192 - markLength (mark e s i)))
+        else Check
 
 -- a clear makes all 208 bytes zero and keeps w
 unfoldable pub cleared : Edition → List ℕ → ℕ → List ℕ

@@ -8,18 +8,16 @@ use Rattle.captions_c.specs.declared.Answer.{Answer}
 use Rattle.captions_c.specs.declared.Day.{Day}
 use Rattle.captions_c.specs.declared.Date.{Date}
 
--- an outcome of a call on blocks, and of one on a sheet, from its number, its length and the lent bytes
+-- an outcome from its number, its length and the lent bytes
 abbrev pub blockMade : ℕ → ℕ → List ℕ → Blocks.Outcome
 blockMade n l bytes = record { number = n; len = l; bytes = bytes }
 
-abbrev pub sheetMade : ℕ → ℕ → List ℕ → Sheets.Outcome
-sheetMade n l bytes = record { number = n; len = l; bytes = bytes }
+-- of an outcome of a call on a sheet, what crosses of blanking and clear: number, length and the lent bytes
+abbrev pub plain : Sheets.Outcome → Blocks.Outcome
+plain o = blockMade (o .number) (o .len) (o .bytes)
 
 abbrev pub crossed : Answer → List ℕ → Blocks.Outcome
 crossed a = blockMade (a .number) (a .length)
-
-abbrev pub sheetCrossed : Answer → List ℕ → Sheets.Outcome
-sheetCrossed a = sheetMade (a .number) (a .length)
 
 abbrev pub dayCrossed : Day → DayOutcome
 dayCrossed d = record { number = d .number; day = d .day }

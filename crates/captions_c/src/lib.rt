@@ -1,4 +1,5 @@
-// What C and Rust link: each call behind its C name, its answer as a number and a length.
+// What C and Rust link: each call behind its C name, its answer as a number and a length, and where it points.
+use points::Pointed;
 ghost use mathlib.Core.Path.{_≡_};
 ghost use mathlib.Core.List.{List};
 ghost use Prim.Native.Nat.{ℕ};
@@ -10,9 +11,10 @@ ghost use Rattle.captions.specs.Captions.{pair};
 ghost use Rattle.captions.specs.Calls.{blanking, writing, clearing, reading};
 ghost use Rattle.calendar.specs.Answers.{dayOutcome, dateOutcome};
 ghost use Rattle.calendar.specs.Calendar.{dayOfDate, dateOfDay};
-ghost use Rattle.dated.specs.Calls.{datedOutcome, dating};
+ghost use Rattle.dated.specs.Calls.{dating};
+ghost use Rattle.points.specs.Pointed.{pointedOutcome};
 ghost use Rattle.listing.specs.Listing.{listed};
-ghost use Rattle.captions_c.specs.Answer.{crossed, sheetCrossed, dayCrossed, dateCrossed};
+ghost use Rattle.captions_c.specs.Answer.{crossed, plain, dayCrossed, dateCrossed};
 
 #[repr(C)]
 pub struct Answer {
@@ -72,32 +74,14 @@ fn mac_answer(a: modes::MacAnswer) -> Answer
     }
 }
 
+// The answer of blanking and clear: number and length. What a refused clear points at doesn't cross.
 fn sheet_answer(a: captions::Answer) -> Answer
-    ensures { λ r. ⌜ ((x : List ℕ) → sheetCrossed r x ≡ outcome a x) ⌝ }
+    ensures { λ r. ⌜ ((x : List ℕ) → crossed r x ≡ plain (outcome a x)) ⌝ }
 {
-    match a {
-        captions::Answer::Accepted(length) => Answer { number: 0, length },
-        captions::Answer::WrongKey => numbered(1),
-        captions::Answer::TwinKeys => numbered(2),
-        captions::Answer::WrongSpan => numbered(3),
-        captions::Answer::UnfitSheet => numbered(4),
-        captions::Answer::OtherKeyClass => numbered(5),
-        captions::Answer::NoSuchSlot => numbered(6),
-        captions::Answer::Overlong => numbered(7),
-        captions::Answer::Worn => numbered(8),
-        captions::Answer::Blank => numbered(9),
-        captions::Answer::Altered => numbered(10),
-    }
-}
-
-fn dated_answer(a: dated::DatedAnswer) -> Answer
-    ensures { λ r. ⌜ ((x : List ℕ) → sheetCrossed r x ≡ (datedOutcome a x) .outcome) ⌝ }
-{
-    match a {
-        dated::DatedAnswer::Read(a) => sheet_answer(a),
-        dated::DatedAnswer::UnfitTerms => numbered(4),
-        dated::DatedAnswer::NoSuchDate => numbered(11),
-        dated::DatedAnswer::NotOnShow => numbered(12),
+    let p = points::answer_pointed(a);
+    Answer {
+        number: p.number,
+        length: p.length,
     }
 }
 
@@ -183,7 +167,7 @@ pub extern "C" fn captions_blank(
     words: usize,
     serial: u16,
 ) -> Answer
-    ensures { λ r. ⌜ sheetCrossed r (now (sheet .exit)) ≡ blanking (now (sheet .entry)) slots words serial ⌝ }
+    ensures { λ r. ⌜ crossed r (now (sheet .exit)) ≡ plain (blanking (now (sheet .entry)) slots words serial) ⌝ }
 {
     let a = sheet::blank(sheet, slots, words, serial);
     sheet_answer(a)
@@ -196,16 +180,16 @@ pub extern "C" fn captions_write(
     sheet: &mut [u8],
     slot: usize,
     caption: &[u8],
-) -> Answer
-    ensures { λ r. ⌜ sheetCrossed r (now (sheet .exit)) ≡ writing (pair (now (sealing .entry)) (now (checking .entry))) (now (sheet .entry)) slot (now (caption .entry)) ⌝ }
+) -> Pointed
+    ensures { λ r. ⌜ pointedOutcome r (now (sheet .exit)) ≡ writing (pair (now (sealing .entry)) (now (checking .entry))) (now (sheet .entry)) slot (now (caption .entry)) ⌝ }
 {
     let a = sheet::write(sealing, checking, sheet, slot, caption);
-    sheet_answer(a)
+    points::answer_pointed(a)
 }
 
 #[no_mangle]
 pub extern "C" fn captions_clear(sheet: &mut [u8], slot: usize) -> Answer
-    ensures { λ r. ⌜ sheetCrossed r (now (sheet .exit)) ≡ clearing (now (sheet .entry)) slot ⌝ }
+    ensures { λ r. ⌜ crossed r (now (sheet .exit)) ≡ plain (clearing (now (sheet .entry)) slot) ⌝ }
 {
     let a = sheet::clear(sheet, slot);
     sheet_answer(a)
@@ -218,11 +202,11 @@ pub extern "C" fn captions_read(
     sheet: &[u8],
     slot: usize,
     window: &mut [u8],
-) -> Answer
-    ensures { λ r. ⌜ sheetCrossed r (now (window .exit)) ≡ reading (pair (now (sealing .entry)) (now (checking .entry))) (now (sheet .entry)) slot (now (window .entry)) ⌝ }
+) -> Pointed
+    ensures { λ r. ⌜ pointedOutcome r (now (window .exit)) ≡ reading (pair (now (sealing .entry)) (now (checking .entry))) (now (sheet .entry)) slot (now (window .entry)) ⌝ }
 {
     let a = sheet::read(sealing, checking, sheet, slot, window);
-    sheet_answer(a)
+    points::answer_pointed(a)
 }
 
 #[no_mangle]
@@ -250,11 +234,11 @@ pub extern "C" fn captions_dated_read(
     slot: usize,
     day: usize,
     window: &mut [u8],
-) -> Answer
-    ensures { λ r. ⌜ sheetCrossed r (now (window .exit)) ≡ (dating (pair (now (sealing .entry)) (now (checking .entry))) (now (sheet .entry)) (now (terms .entry)) slot day (now (window .entry))) .outcome ⌝ }
+) -> Pointed
+    ensures { λ r. ⌜ pointedOutcome r (now (window .exit)) ≡ (dating (pair (now (sealing .entry)) (now (checking .entry))) (now (sheet .entry)) (now (terms .entry)) slot day (now (window .entry))) .outcome ⌝ }
 {
     let a = dated::dated_read(sealing, checking, sheet, terms, slot, day, window);
-    dated_answer(a)
+    points::dated_pointed(a)
 }
 
 // The bytes of the listing written; 0, and out as it was, where out is too small.

@@ -12,30 +12,33 @@ use Rattle.octets.specs.Bytes.{zeros, same}
 use Rattle.octets.specs.Outcome.{_gives_, decided}
 use Rattle.octets.proofs.Clauses.{reflects-not, reflects-yes, reflects-no, reflects-ltb}
 use Rattle.layout.specs.Layout.{editionOf, slots, keyClass, markLength, mark, fitIn, blankSlot}
-use Rattle.captions.specs.Answers.{Outcome, outcome, answerNumber, answerLength}
-use Rattle.captions.specs.Captions.{Keys, Ciphers, loadedFor, opened, altered}
+use Rattle.faults.specs.Faults.{firstFault}
+use Rattle.faults.specs.declared.Fault.{Fault}
+use Rattle.captions.specs.Answers.{Outcome, outcome, answerNumber, answerLength, answerPoint}
+use Rattle.captions.specs.Captions.{Keys, Ciphers, loadedFor, opened, altered, change}
 use Rattle.captions.specs.Calls.{wrongKeys, otherClass, keyTests, classTests, sheetTests, windowTests, openTests, readTests, readingWith, reading}
+use Rattle.captions.specs.declared.Change.{Change}
 use Rattle.captions.specs.declared.Answer.the-variants.{Accepted, WrongKey, TwinKeys, WrongSpan, UnfitSheet, OtherKeyClass, NoSuchSlot, Blank, Altered}
 use Rattle.terms.specs.Terms.{fitTerms, onShow}
 use Rattle.terms.specs.Rules.{MeetsTerms}
 use Rattle.terms.proofs.Meaning.{reflects-terms, reflects-show}
 use Rattle.dated.specs.declared.DatedAnswer.the-variants.{Read, UnfitTerms, NoSuchDate, NotOnShow}
-use Rattle.dated.specs.Calls.{DatedOutcome, datedNumber, datedLength, ofTerms, datedOutcome, undated, datedTests, datingWith, dating}
+use Rattle.dated.specs.Calls.{DatedOutcome, datedNumber, datedLength, datedPoint, ofTerms, datedOutcome, undated, datedTests, datingWith, dating}
 use Rattle.dated.specs.Laws.{NoneTo, TermsRefuse, DateRefuses, ShowRefuses, BesideUndated}
 
 -- ---- over any tests: b₁ to b₁₀ are those of the undated read, bₜ, b₁₁ and b₁₂ the three others
 
-module _ (m : ℕ) (o z : List ℕ) where
+module _ (m : ℕ) (o z : List ℕ) (f : Fault) (i : ℕ) (c : Change) where
   undatedOf : (b₁ b₂ b₃ b₄ b₅ b₆ b₉ b₁₀ : Bool) → Outcome
   undatedOf b₁ b₂ b₃ b₄ b₅ b₆ b₉ b₁₀ =
       decided
-      ((b₁ gives WrongKey) ∷ (b₂ gives TwinKeys) ∷ (b₃ gives WrongSpan) ∷ (b₄ gives UnfitSheet) ∷ (b₅ gives OtherKeyClass) ∷ (b₆ gives NoSuchSlot) ∷ (b₉ gives Blank) ∷ (b₁₀ gives Altered) ∷ [])
+      ((b₁ gives WrongKey) ∷ (b₂ gives TwinKeys) ∷ (b₃ gives WrongSpan) ∷ (b₄ gives UnfitSheet f) ∷ (b₅ gives OtherKeyClass) ∷ (b₆ gives NoSuchSlot) ∷ (b₉ gives Blank) ∷ (b₁₀ gives Altered i c) ∷ [])
       (outcome (Accepted m) o) (λ a. outcome a z)
 
   datedOf : (b₁ b₂ b₃ b₄ bₜ b₅ b₁₁ b₆ b₉ b₁₂ b₁₀ : Bool) → DatedOutcome
   datedOf b₁ b₂ b₃ b₄ bₜ b₅ b₁₁ b₆ b₉ b₁₂ b₁₀ =
       decided
-      ((b₁ gives Read WrongKey) ∷ (b₂ gives Read TwinKeys) ∷ (b₃ gives Read WrongSpan) ∷ (b₄ gives Read UnfitSheet) ∷ (bₜ gives UnfitTerms) ∷ (b₅ gives Read OtherKeyClass) ∷ (b₁₁ gives NoSuchDate) ∷ (b₆ gives Read NoSuchSlot) ∷ (b₉ gives Read Blank) ∷ (b₁₂ gives NotOnShow) ∷ (b₁₀ gives Read Altered) ∷ [])
+      ((b₁ gives Read WrongKey) ∷ (b₂ gives Read TwinKeys) ∷ (b₃ gives Read WrongSpan) ∷ (b₄ gives Read (UnfitSheet f)) ∷ (bₜ gives UnfitTerms) ∷ (b₅ gives Read OtherKeyClass) ∷ (b₁₁ gives NoSuchDate) ∷ (b₆ gives Read NoSuchSlot) ∷ (b₉ gives Read Blank) ∷ (b₁₂ gives NotOnShow) ∷ (b₁₀ gives Read (Altered i c)) ∷ [])
       (datedOutcome (Read (Accepted m)) o) (λ a. datedOutcome a z)
 
 -- when each of the three applies, with u the undated number
@@ -69,8 +72,8 @@ low {bₜ} {b₁₁} {b₁₂} {u} l h f e = by-none terms date show (omega arit
     show (show-by t b c (inl q)) = omega (arith, q)
     show (show-by t b c (inr q)) = omega (arith, q)
 
-module _ (m : ℕ) (o z : List ℕ) where
-  undated-4 : (b₅ b₆ b₉ b₁₀ : Bool) → NoneTo 4 (undatedOf m o z false false false false b₅ b₆ b₉ b₁₀ .number)
+module _ (m : ℕ) (o z : List ℕ) (f : Fault) (i : ℕ) (c : Change) where
+  undated-4 : (b₅ b₆ b₉ b₁₀ : Bool) → NoneTo 4 (undatedOf m o z f i c false false false false b₅ b₆ b₉ b₁₀ .number)
   unfolding undatedOf decided outcome answerNumber
   undated-4 true b₆ b₉ b₁₀ l = omega arith
   undated-4 false true b₉ b₁₀ l = omega arith
@@ -78,7 +81,7 @@ module _ (m : ℕ) (o z : List ℕ) where
   undated-4 false false false true l = omega arith
   undated-4 false false false false l = omega (arith, l)
 
-  undated-5 : (b₆ b₉ b₁₀ : Bool) → NoneTo 5 (undatedOf m o z false false false false false b₆ b₉ b₁₀ .number)
+  undated-5 : (b₆ b₉ b₁₀ : Bool) → NoneTo 5 (undatedOf m o z f i c false false false false false b₆ b₉ b₁₀ .number)
   unfolding undatedOf decided outcome answerNumber
   undated-5 true b₉ b₁₀ l = omega arith
   undated-5 false true b₁₀ l = omega arith
@@ -104,8 +107,8 @@ module _ (m : ℕ) (o z : List ℕ) where
   neither n l h (inr q) = omega (arith, q)
 
   way : (b₁ b₂ b₃ b₄ bₜ b₅ b₁₁ b₆ b₉ b₁₂ b₁₀ : Bool)
-      → Way bₜ b₁₁ b₁₂ (undatedOf m o z b₁ b₂ b₃ b₄ b₅ b₆ b₉ b₁₀) (datedOf m o z b₁ b₂ b₃ b₄ bₜ b₅ b₁₁ b₆ b₉ b₁₂ b₁₀)
-  unfolding undatedOf datedOf decided outcome datedOutcome datedNumber datedLength ofTerms answerNumber answerLength
+      → Way bₜ b₁₁ b₁₂ (undatedOf m o z f i c b₁ b₂ b₃ b₄ b₅ b₆ b₉ b₁₀) (datedOf m o z f i c b₁ b₂ b₃ b₄ bₜ b₅ b₁₁ b₆ b₉ b₁₂ b₁₀)
+  unfolding undatedOf datedOf decided outcome datedOutcome datedNumber datedLength datedPoint ofTerms answerNumber answerLength answerPoint
   way true b₂ b₃ b₄ bₜ b₅ b₁₁ b₆ b₉ b₁₂ b₁₀ = low (lit≤ tt) (lit≤ tt) refl refl
   way false true b₃ b₄ bₜ b₅ b₁₁ b₆ b₉ b₁₂ b₁₀ = low (lit≤ tt) (lit≤ tt) refl refl
   way false false true b₄ bₜ b₅ b₁₁ b₆ b₉ b₁₂ b₁₀ = low (lit≤ tt) (lit≤ tt) refl refl
@@ -194,7 +197,7 @@ module _ (k : Keys) (s t : List ℕ) (i day : ℕ) (window : List ℕ) where
   the-way =
       let e = editionOf s in
       let x : Ciphers = loadedFor (keyClass s) k in
-      way (markLength (mark e s i)) (opened x e s i) (zeros (length window)) (wrongKeys k) (same (k .sealing) (k .checking)) (not (eqb (length window) 192)) (not (fitIn e s)) unfit (otherClass k s) late (leb (slots s) i) (blankSlot e s i) off (altered x e s i)
+      way (markLength (mark e s i)) (opened x e s i) (zeros (length window)) (firstFault s) i (change x e s i) (wrongKeys k) (same (k .sealing) (k .checking)) (not (eqb (length window) 192)) (not (fitIn e s)) unfit (otherClass k s) late (leb (slots s) i) (blankSlot e s i) off (altered x e s i)
 
   fit-terms : unfit ≡ false → MeetsTerms (slots s) t
   fit-terms f = reflects-terms (slots s) t .holds (not-false _ f)

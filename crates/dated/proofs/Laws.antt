@@ -23,7 +23,7 @@ use Rattle.terms.specs.Rules.{OnShow}
 use Rattle.terms.proofs.Meaning.{reflects-terms, reflects-show}
 use Rattle.dated.specs.declared.DatedAnswer.{DatedAnswer}
 use Rattle.dated.specs.declared.DatedAnswer.the-variants.{Read, UnfitTerms, NoSuchDate, NotOnShow}
-use Rattle.dated.specs.Calls.{DatedOutcome, datedNumber, datedLength, ofTerms, datedOutcome, undated, datedTests, datingWith, dating}
+use Rattle.dated.specs.Calls.{DatedOutcome, datedNumber, datedLength, datedPoint, ofTerms, datedOutcome, undated, datedTests, datingWith, dating}
 use Rattle.dated.specs.Laws.{datedClauses, DatedOf, TermsMet, DatedReads}
 use Rattle.dated.proofs.Beside.{beside}
 use Rattle.dated.proofs.Open.{opened}
@@ -82,7 +82,7 @@ module _ (k : Keys) (s t : List ℕ) (i day : ℕ) (window : List ℕ) where
 
   -- a refusal of the undated read, and one of the three
   refused-leaves : (a : DatedAnswer) (bytes : List ℕ) → (datedNumber a ≡ 0 → ⊥) → Leaves (datedOutcome a bytes .outcome) bytes
-  unfolding datedOutcome datedNumber datedLength outcome
+  unfolding datedOutcome datedNumber datedLength datedPoint outcome
   refused-leaves (Read a) bytes h = leaves a bytes h
   refused-leaves UnfitTerms bytes h = record { len = refl; bytes-are = refl }
   refused-leaves NoSuchDate bytes h = record { len = refl; bytes-are = refl }

@@ -29,7 +29,7 @@ use Rattle.terms.specs.Inner.{TermsOf}
 use Rattle.terms.proofs.Meaning.{reflects-terms}
 use Rattle.dated.specs.declared.DatedAnswer.{DatedAnswer}
 use Rattle.dated.specs.declared.DatedAnswer.the-variants.{Read, UnfitTerms, NoSuchDate, NotOnShow}
-use Rattle.dated.specs.Calls.{DatedOutcome, datedNumber, datedLength, ofTerms, datedOutcome, undated, dayRow, showRow, datedTests, datingWith, dating}
+use Rattle.dated.specs.Calls.{DatedOutcome, datedNumber, datedLength, datedPoint, ofTerms, datedOutcome, undated, dayRow, showRow, datedTests, datingWith, dating}
 use Rattle.dated.specs.Inner.{shownRows, fitRows, accepts, refuses, datedShown, datedFit}
 
 -- ---- tests of the undated read in a table of the dated one: v is what they came to
@@ -82,7 +82,7 @@ dated o = record { outcome = o; unfit-terms = false }
 
 opens : (k : Keys) (s : List ℕ) (i : ℕ) (a : Answer) (bytes : List ℕ) → outcome a bytes ≡ slotShown (loadedFor (keyClass s) k) s i
     → datedOutcome (Read a) bytes ≡ decided (undated (alteredRow (loadedFor (keyClass s) k) (editionOf s) s i) ∷ []) (accepts k s i) refuses
-unfolding dated datedOutcome datedNumber datedLength ofTerms outcome slotShown accepts refuses undated decided
+unfolding dated datedOutcome datedNumber datedLength datedPoint ofTerms outcome slotShown accepts refuses undated decided
 opens k s i a bytes o =
     ap dated o
     ∙ decided-map dated (alteredRow (loadedFor (keyClass s) k) (editionOf s) s i ∷ [])

@@ -7,7 +7,8 @@ use lib.ListN.{length}
 use Rattle.octets.specs.Bytes.{zeros}
 use Rattle.octets.specs.Outcome.{Row, _gives_, decided}
 use Rattle.layout.specs.Layout.{Edition, editionOf, slots, keyClass, markLength, mark}
-use Rattle.captions.specs.Answers.{Outcome, answerNumber, answerLength}
+use Rattle.faults.specs.Faults.{Point, point}
+use Rattle.captions.specs.Answers.{Outcome, answerNumber, answerLength, answerPoint}
 use Rattle.captions.specs.Captions.{Keys, Ciphers, loadedFor, opened}
 use Rattle.captions.specs.Calls.{keyTests, spanRow, unfitRow, classRow, slotRow, blankRow, alteredRow}
 use Rattle.captions.specs.declared.Answer.{Answer}
@@ -16,7 +17,7 @@ use Rattle.terms.specs.Terms.{fitTerms, onShow}
 use Rattle.dated.specs.declared.DatedAnswer.{DatedAnswer}
 use Rattle.dated.specs.declared.DatedAnswer.the-variants.{Read, UnfitTerms, NoSuchDate, NotOnShow}
 
--- ---- the answers: their numbers and lengths
+-- ---- the answers: their numbers and lengths, and what they point at
 
 unfoldable pub datedNumber : DatedAnswer → ℕ
 datedNumber (Read a) = answerNumber a
@@ -29,6 +30,13 @@ datedLength (Read a) = answerLength a
 datedLength UnfitTerms = 0
 datedLength NoSuchDate = 0
 datedLength NotOnShow = 0
+
+-- rule 12 is that of the term sheet (document 02, request 5)
+unfoldable pub datedPoint : DatedAnswer → Point
+datedPoint (Read a) = answerPoint a
+datedPoint UnfitTerms = point 12 0 0
+datedPoint NoSuchDate = point 0 0 0
+datedPoint NotOnShow = point 0 0 0
 
 -- 4 is the number of both sheets: whether it is the term sheet's
 unfoldable pub ofTerms : DatedAnswer → Bool
@@ -45,7 +53,7 @@ pub record DatedOutcome : Type 0 where
 unfoldable pub datedOutcome : DatedAnswer → List ℕ → DatedOutcome
 datedOutcome a bytes =
     record {
-      outcome = record { number = datedNumber a; len = datedLength a; bytes = bytes };
+      outcome = record { number = datedNumber a; len = datedLength a; points = datedPoint a; bytes = bytes };
       unfit-terms = ofTerms a;
     }
 

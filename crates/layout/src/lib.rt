@@ -88,7 +88,7 @@ fn header_rule(s: &[u8]) -> bool
 }
 
 // Whether the sheet has the size that its header says.
-fn fit_size(s: &[u8]) -> bool
+pub fn fit_size(s: &[u8]) -> bool
     requires { ⌜ 8 ≤ length (now s) ⌝ }
     ensures { λ r. ⌜ r ≡ slotCount (slots (now (s .entry))) && eqb (length (now (s .entry))) (sheetSize (editionOf (now (s .entry)) .header) (slots (now (s .entry)))) ⌝ }
 {
@@ -165,7 +165,7 @@ fn written_after(number: usize, rest: usize, w: usize) -> bool
 }
 
 // A mark's numbers are read once: the write number says which of the two a slot can be.
-fn fit_slot(s: &[u8], h: Shape, w: usize, i: usize) -> bool
+pub fn fit_slot(s: &[u8], h: Shape, w: usize, i: usize) -> bool
     requires { ⌜ SlotIn (now s) h i ⌝ }
     requires { ⌜ w ≡ lastWrite (now s) ⌝ }
     ensures { λ r. ⌜ r ≡ fitSlot (editionOf (now (s .entry))) (now (s .entry)) i ⌝ }

@@ -16,13 +16,13 @@ fn answer(a: Answer) {
         Answer::WrongKey => numbers(1, 0),
         Answer::TwinKeys => numbers(2, 0),
         Answer::WrongSpan => numbers(3, 0),
-        Answer::UnfitSheet => numbers(4, 0),
+        Answer::UnfitSheet(_) => numbers(4, 0),
         Answer::OtherKeyClass => numbers(5, 0),
         Answer::NoSuchSlot => numbers(6, 0),
         Answer::Overlong => numbers(7, 0),
         Answer::Worn => numbers(8, 0),
         Answer::Blank => numbers(9, 0),
-        Answer::Altered => numbers(10, 0),
+        Answer::Altered(_, _) => numbers(10, 0),
     }
 }
 

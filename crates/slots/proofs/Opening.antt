@@ -2,7 +2,7 @@
 use mathlib.Core.Path.{_≡_, sym, ap, _∙_}
 use mathlib.Core.Bool.{Bool, true, false, not}
 use mathlib.Core.List.{List}
-use Prim.Native.Nat.{ℕ, _+_, _-_, _/_, _≤_}
+use Prim.Native.Nat.{ℕ, _+_, _-_, _/_, _≤_, _<_}
 use native.Mathlib.Nat.{add-zero}
 use native.Mathlib.Omega.{arith}
 use lib.ListN.{length, take, drop, length-drop}
@@ -19,10 +19,13 @@ use Rattle.layout.specs.Layout.{editionOf, keyClass, lastWrite, markNumber, mar
 use Rattle.layout.specs.Shape.{shapeOf, SlotIn}
 use Rattle.layout.proofs.Fits.{fit-facts, not-blank-written, written-length, slot-header, slot-placed}
 use Rattle.layout.proofs.Slots.{header-is, slots-are}
+use Rattle.faults.specs.Faults.{firstSet}
+use Rattle.faults.proofs.Places.{set-high}
 use Rattle.captions.specs.Answers.{Outcome, outcome}
-use Rattle.captions.specs.Captions.{pair, loadedFor, startBlock, checkOf, openedField, opened, altered}
+use Rattle.captions.specs.Captions.{pair, loadedFor, startBlock, checkOf, openedField, opened, altered, change}
 use Rattle.captions.specs.declared.Answer.the-variants.{Accepted, Altered}
-use Rattle.slots.specs.Inner.{ciphers, slotShown, Written, Placed}
+use Rattle.captions.specs.declared.Change.the-variants.{Check, Byte}
+use Rattle.slots.specs.Inner.{ciphers, leftIn, slotShown, Written, Placed}
 use Rattle.slots.proofs.Sealing.{field-inside, tail-is, keys-loaded}
 
 pub check-same : (s x y : List ℕ) (a b : ℕ) (r : Bool) → x ≡ y → b ≡ a → r ≡ same x (take ((b + 8 + 8) - (b + 8)) (drop (b + 8) s)) → r ≡ same y (part s (a + 8) 8)
@@ -40,6 +43,15 @@ tail-part s len r e =
     let h : length (drop len s) ≤ length s - len = simp length-drop (omega arith) in
     e ∙ rw (take-all (length s - len) (drop len s) h)
 
+-- the place of a byte in 192 is a byte
+pub left-small : (s : List ℕ) (len p : ℕ) → len ≤ 192 → p ≡ firstSet s len (192 - len) → p < 256
+left-small s len p h e = omega (arith, e, set-high s len (192 - len))
+
+-- v is what was opened, b the place that was found in it
+pub left-refused : (v w : List ℕ) (i len b : ℕ) → b ≡ firstSet v len (192 - len) → w ≡ zeros (length v) → outcome (Altered i (Byte b)) w ≡ leftIn v i len
+unfolding leftIn
+left-refused v w i len b e z = rw (e, z)
+
 -- ---- slot i of a sheet s of shape h: w and len are what was read of its mark, which lies at a
 
 module _ (s : List ℕ) (h : Shape) (i : ℕ) (p : SlotIn s h i) (a : ℕ) (q : a ≡ markAt (h .header) i) where
@@ -54,6 +66,9 @@ module _ (s : List ℕ) (h : Shape) (i : ℕ) (p : SlotIn s h i) (a : ℕ) (q : 
   length-read : (len : ℕ) → len ≡ number (part s (a + 4) 2) → len ≡ markLength (mark (editionOf s) s i)
   unfolding markLength
   length-read len e = e ∙ sym (ap number (mark-part 4 2 (omega arith)))
+
+  pub length-few : (len : ℕ) → len ≡ number (part s (a + 4) 2) → markLength (mark (editionOf s) s i) ≤ 192 → len ≤ 192
+  length-few len e l = omega (arith, length-read len e)
 
   pub length-inside : (len : ℕ) → len ≡ number (part s (a + 4) 2) → markLength (mark (editionOf s) s i) ≤ 192 → (x window : List ℕ) → window ≡ zeros 192 → length x ≡ length window → len ≤ length x
   length-inside len e l x window z j = omega (arith, length-read len e, zeros-size window 192 z)
@@ -73,9 +88,9 @@ module _ (s : List ℕ) (h : Shape) (i : ℕ) (p : SlotIn s h i) (a : ℕ) (q : 
     check-found = e ∙ rw (← q, check-read, field-read, number-read w n, length-read len l)
 
     -- the check differs
-    pub shown-other-check : (window : List ℕ) → window ≡ zeros 192 → r ≡ false → outcome Altered window ≡ slotShown (ciphers k m) s i
-    unfolding slotShown altered
-    shown-other-check window z t = decided-first _ _ _ _ _ (rw (← check-found, t)) (ap (outcome Altered) z)
+    pub shown-other-check : (window : List ℕ) → window ≡ zeros 192 → r ≡ false → outcome (Altered i Check) window ≡ slotShown (ciphers k m) s i
+    unfolding slotShown altered change
+    shown-other-check window z t = decided-first _ _ _ _ _ (rw (← check-found, t)) (rw (← check-found, t, z))
 
     -- the check is right; x is what was opened, v what was found of its bytes at or past the length
     module _ (t : r ≡ true) (x : List ℕ) (o : x ≡ openedField (ciphers k k) (h .tail) w i (part s (fieldAt (h .header) (h .slots) i) 192)) (v : Bool) (f : v ≡ allZero (drop len x)) where
@@ -87,13 +102,17 @@ module _ (s : List ℕ) (h : Shape) (i : ℕ) (p : SlotIn s h i) (a : ℕ) (q : 
       unfolding altered
       altered-is = rw (← check-found, t, ← field-is, ← length-read len l, ← f)
 
+      change-is : change (ciphers k m) (editionOf s) s i ≡ Byte (firstSet x len (192 - len))
+      unfolding change
+      change-is = rw (← check-found, t, ← field-is, ← length-read len l)
+
       pub shown : v ≡ true → outcome (Accepted len) x ≡ slotShown (ciphers k m) s i
       unfolding slotShown
       shown u = decided-rest _ _ _ _ _ (altered-is ∙ rw u) (rw (← field-is, ← length-read len l) (decided-none _ _))
 
-      pub shown-tail : v ≡ false → (left window : List ℕ) → left ≡ zeros (length x) → window ≡ zeros 192 → length x ≡ length window → outcome Altered left ≡ slotShown (ciphers k m) s i
-      unfolding slotShown
-      shown-tail u left window z y j = decided-first _ _ _ _ _ (altered-is ∙ rw u) (rw (z, j, zeros-size window 192 y))
+      pub shown-tail : v ≡ false → (window : List ℕ) → window ≡ zeros 192 → length x ≡ length window → (u : Outcome) → u ≡ leftIn x i len → u ≡ slotShown (ciphers k m) s i
+      unfolding slotShown leftIn
+      shown-tail g window z j u d = d ∙ decided-first _ _ _ _ _ (altered-is ∙ rw g) (rw (j, zeros-size window 192 z, change-is))
 
 -- ---- a slot that isn't blank, and the keys that were loaded
 

@@ -1,5 +1,5 @@
 -- For contracts alone: the ciphers of loaded keys, what a read comes to once its slot may be opened, and where parts of a slot lie.
-use Prim.Native.Nat.{ℕ, _≤_, _<_}
+use Prim.Native.Nat.{ℕ, _-_, _≤_, _<_}
 use mathlib.Core.Path.{_≡_}
 use mathlib.Core.Bool.{false}
 use mathlib.Core.List.{List, [], _∷_}
@@ -11,14 +11,20 @@ use Rattle.cipher.specs.declared.Key.{Key}
 use Rattle.layout.specs.Layout.{editionOf, sheetSize, markLength, mark, blankSlot}
 use Rattle.layout.specs.Shape.{FitSlot}
 use Rattle.layout.specs.declared.Shape.{Shape}
+use Rattle.faults.specs.Faults.{firstSet}
 use Rattle.captions.specs.Answers.{Outcome, outcome}
 use Rattle.captions.specs.Captions.{Ciphers, opened}
 use Rattle.captions.specs.Calls.{alteredRow}
-use Rattle.captions.specs.declared.Answer.the-variants.{Accepted}
+use Rattle.captions.specs.declared.Answer.the-variants.{Accepted, Altered}
+use Rattle.captions.specs.declared.Change.the-variants.{Byte}
 
 -- k is the loaded sealing key, m the loaded checking key
 abbrev pub ciphers : Key → Key → Ciphers
 ciphers k m = record { E = encrypted k; D = decrypted k; M = encrypted m }
+
+-- a read of slot i that has opened v, and finds a byte at or past len that isn't zero
+unfoldable pub leftIn : List ℕ → ℕ → ℕ → Outcome
+leftIn v i len = outcome (Altered i (Byte (firstSet v len (192 - len)))) (zeros (length v))
 
 -- what a read comes to once every test before 10 is passed
 unfoldable pub slotShown : Ciphers → List ℕ → ℕ → Outcome

@@ -1,15 +1,17 @@
 // Opening a slot into a window.
 use captions::Answer;
+use captions::Change;
 use layout::Shape;
 ghost use mathlib.Core.Path.{_≡_};
-ghost use Prim.Native.Nat.{_+_, _≤_};
+ghost use Prim.Native.Nat.{_+_, _-_, _≤_, _<_};
 ghost use lib.ListN.{length, drop};
 ghost use Rattle.octets.specs.Bytes.{part, zeros, same, allZero};
 ghost use Rattle.layout.specs.Layout.{editionOf, keyClass, markAt, fieldAt, markLength, mark};
 ghost use Rattle.layout.specs.Shape.{SlotIn};
+ghost use Rattle.faults.specs.Faults.{firstSet};
 ghost use Rattle.captions.specs.Answers.{outcome};
 ghost use Rattle.captions.specs.Captions.{pair, loadedFor, checkOf, openedField};
-ghost use Rattle.slots.specs.Inner.{ciphers, slotShown, Written, Placed};
+ghost use Rattle.slots.specs.Inner.{ciphers, leftIn, slotShown, Written, Placed};
 
 // Whether the stored check is that of the field.
 fn check_same(m: cipher::Key, sheet: &[u8], h: Shape, w: usize, i: usize, len: usize) -> bool
@@ -44,7 +46,26 @@ fn tail_zero(s: &[u8], len: usize) -> bool
     octets::all_zero(&s[len..])
 }
 
-// The same with loaded keys, for a sheet whose shape is h.
+// The place of the first byte at or past len that isn't zero.
+fn first_left(s: &[u8], len: usize) -> u8
+    requires { ⌜ len ≤ 192 ⌝ }
+    ensures { λ r. ⌜ r ≡ firstSet (now (s .entry)) len (192 - len) ⌝ }
+{
+    let place = faults::first_set(s, len, 192 - len);
+    place as u8
+}
+
+// Refuses an opened field that isn't zero at or past len, and makes the window zero.
+fn refuse_left(window: &mut [u8], i: usize, len: usize) -> Answer
+    requires { ⌜ (i < 65536) × (len ≤ 192) ⌝ }
+    ensures { λ r. ⌜ outcome r (now (window .exit)) ≡ leftIn (now (window .entry)) i len ⌝ }
+{
+    let place = first_left(window, len);
+    octets::fill_zero(window);
+    Answer::Altered(i as u16, Change::Byte(place))
+}
+
+// Test 10 and the read of slot i with loaded keys, for a sheet whose shape is h. The window is all zero.
 fn show_slot(
     k: cipher::Key,
     m: cipher::Key,
@@ -60,14 +81,13 @@ fn show_slot(
     let w = octets::number4(sheet, a);
     let len = octets::number2(sheet, a + 4);
     if !check_same(m, sheet, h, w, i, len) {
-        return Answer::Altered;
+        return Answer::Altered(i as u16, Change::Check);
     }
     open_field(k, sheet, h, w, i, window);
     if tail_zero(window, len) {
         return Answer::Accepted(len as u16);
     }
-    octets::fill_zero(window);
-    Answer::Altered
+    refuse_left(window, i, len)
 }
 
 // Test 10 and the read of a slot that isn't blank. The window is all zero.

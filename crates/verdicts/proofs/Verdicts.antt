@@ -16,6 +16,8 @@ use Rattle.layout.specs.Shape.{shapeOf, FitSlot}
 use Rattle.layout.specs.declared.Shape.{Shape}
 use Rattle.layout.proofs.Header.{count-high}
 use Rattle.layout.proofs.Fits.{fit-facts, fits-header, fits-class-small, slot-long}
+use Rattle.faults.specs.Faults.{firstFault}
+use Rattle.faults.specs.declared.Fault.{Fault}
 use Rattle.captions.specs.Answers.{firstOf}
 use Rattle.captions.specs.Captions.{Keys, pair, loadedFor}
 use Rattle.captions.specs.Calls.{wrongKeys, otherClass, spanRow, unfitRow, classRow, slotRow, blankRow, keyTests, captionTests, classTests, sheetTests, windowTests, openTests, writeTests, clearTests, blankTests}
@@ -115,9 +117,9 @@ module _ (k : Keys) (r : Bool) (e : r ≡ wrongKeys k) where
 -- ---- tests 4, 5 and 6, each by itself
 
 module _ (s : List ℕ) (r : Bool) (e : r ≡ fit s) where
-  pub fit-no : r ≡ false → Refuse UnfitSheet ≡ firstOf (unfitRow (editionOf s) s ∷ [])
+  pub fit-no : r ≡ false → (f : Fault) → f ≡ firstFault s → Refuse (UnfitSheet f) ≡ firstOf (unfitRow (editionOf s) s ∷ [])
   unfolding fit
-  fit-no h = met _ _ _ (rw (← e, h))
+  fit-no h f q = rw q (met _ _ _ (rw (← e, h)))
 
   pub fit-yes : r ≡ true → Pass ≡ firstOf (unfitRow (editionOf s) s ∷ [])
   unfolding fit

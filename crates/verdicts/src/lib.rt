@@ -43,14 +43,15 @@ pub fn keys_verdict(sealing: &[u8], checking: &[u8]) -> Verdict
     Verdict::Pass
 }
 
-// Test 4.
+// Test 4. The fault is looked for in an unfit sheet alone.
 pub fn fit_verdict(sheet: &[u8]) -> Verdict
     ensures { λ r. ⌜ r ≡ firstOf (unfitRow (editionOf (now (sheet .entry))) (now (sheet .entry)) ∷ []) ⌝ }
 {
     if layout::fit_sheet(sheet) {
         return Verdict::Pass;
     }
-    Verdict::Refuse(Answer::UnfitSheet)
+    let f = faults::first_fault(sheet);
+    Verdict::Refuse(Answer::UnfitSheet(f))
 }
 
 // Test 5 on a sheet that meets the layout; of the keys only the length of the sealing key is looked at.

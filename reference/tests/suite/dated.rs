@@ -227,6 +227,7 @@ fn any_window_but_192_gives_3_and_becomes_zero() {
                 let mut window = vec![0xee; length];
                 let answer =
                     reference::dated_read(&keys.0, &keys.1, &sheet, &terms, 0, 1, &mut window);
+                let answer = unpointed(answer);
                 let number = if length == 192 { number } else { 3 };
                 assert_eq!(answer.number, number);
                 if number == 0 {

@@ -1,12 +1,12 @@
 //! The order of a dated read's tests, and what an undated read of the same call
-//! settles of it (document 02, request 1).
+//! settles of it (document 02, requests 1 and 5).
 
 use crate::edition::Edition;
 use crate::random::Random;
 use crate::refusals::{call_for, Call, WAYS};
 use crate::support::*;
 use crate::term_sheet::*;
-use reference::Answer;
+use reference::Pointed;
 
 /// The numbers in the order of the tests; the first 4 is the caption sheet's,
 /// the second the term sheet's.
@@ -79,7 +79,7 @@ impl Set {
 }
 
 /// A dated read into the call's window.
-fn dated(call: &Call, terms: &[u8], day: usize) -> (Answer, Vec<u8>) {
+fn dated(call: &Call, terms: &[u8], day: usize) -> (Pointed, Vec<u8>) {
     let mut window = call.window.clone();
     let answer = reference::dated_read(
         &call.sealing,
@@ -94,7 +94,7 @@ fn dated(call: &Call, terms: &[u8], day: usize) -> (Answer, Vec<u8>) {
 }
 
 /// The undated read of the same call.
-fn undated(call: &Call) -> (Answer, Vec<u8>) {
+fn undated(call: &Call) -> (Pointed, Vec<u8>) {
     let mut window = call.window.clone();
     let answer = reference::read(
         &call.sealing,
@@ -108,7 +108,7 @@ fn undated(call: &Call) -> (Answer, Vec<u8>) {
 
 /// What a dated read shall answer: one of the three numbers that a term sheet
 /// and a day bring with them, or what the undated read of the call answers.
-fn by_the_law(call: &Call, terms: &[u8], day: usize) -> (Answer, Vec<u8>) {
+fn by_the_law(call: &Call, terms: &[u8], day: usize) -> (Pointed, Vec<u8>) {
     let undated = undated(call);
     let u = undated.0.number;
     // Only past 4 there is an n, and only past 6 a slot.
@@ -124,7 +124,9 @@ fn by_the_law(call: &Call, terms: &[u8], day: usize) -> (Answer, Vec<u8>) {
     } else {
         return undated;
     };
-    (refused(number), vec![0; call.window.len()])
+    let rule = if number == 4 { 12 } else { 0 };
+    let answer = pointed(refused(number), (rule, 0, 0));
+    (answer, vec![0; call.window.len()])
 }
 
 #[test]
@@ -139,10 +141,10 @@ fn a_dated_read_gives_the_first_refusal_of_every_set_and_zeroes_its_window() {
             let (terms, day) = set.terms_and_day(way, &mut random);
             let (answer, window) = dated(&call, &terms, day);
             if set.first() == 0 {
-                assert_eq!(answer, accepted(40));
+                assert_eq!(unpointed(answer), accepted(40));
                 assert_eq!(window, shown(&call.caption));
             } else {
-                assert_eq!(answer, refused(set.first()), "{set:?} {way}");
+                assert_eq!(unpointed(answer), refused(set.first()), "{set:?} {way}");
                 assert!(window.iter().all(|byte| *byte == 0), "{set:?} {way}");
             }
             assert_eq!((answer, window), by_the_law(&call, &terms, day));

@@ -27,7 +27,7 @@ fn key_bytes_7_9_13_17_refused_and_8_12_16_taken() {
             };
             let mut sheet = edition.blank_sheet(1, t);
             assert_eq!(
-                reference::write(&key, &other, &mut sheet, 0, b"x"),
+                unpointed(reference::write(&key, &other, &mut sheet, 0, b"x")),
                 refused(number)
             );
             let (answer, _) = read(&(key, other), &sheet, 0);

@@ -35,6 +35,7 @@ fn the_program_prints_each_kind_of_vectors() {
         ("steps", steps()),
         ("cbc", cbc()),
         ("sheet", sheet()),
+        ("faults", faults()),
     ] {
         assert_eq!(printed(&["vectors", kind], b""), text.as_bytes());
     }
@@ -140,6 +141,45 @@ fn the_program_prints_unfit_for_an_unfit_sheet() {
 }
 
 #[test]
+fn the_program_prints_the_first_fault_or_none() {
+    for edition in Edition::ALL {
+        let good = edition.blank_sheet(256, 8);
+        assert_eq!(printed(&["fault"], &good), b"none\n");
+        assert_eq!(printed(&["fault"], &good[..7]), b"1 0 0\n");
+        assert_eq!(printed(&["fault"], &good[..8]), b"6 0 0\n");
+        let mut wrong_n = good.clone();
+        wrong_n[1] = 1;
+        assert_eq!(printed(&["fault"], &wrong_n), b"2 0 0\n");
+        let mut set = good.clone();
+        *set.last_mut().unwrap() = 1;
+        assert_eq!(printed(&["fault"], &set), b"7 255 0\n");
+        let mark = edition.mark_place(13).start;
+        set[4..8].copy_from_slice(&[1; 4]);
+        set[mark] = 1;
+        set[mark + 7] = 1;
+        assert_eq!(printed(&["fault"], &set), b"9 13 7\n");
+    }
+    let mut edition_2 = Edition::BLANKED.blank_sheet(1, 4);
+    edition_2[15] = 1;
+    assert_eq!(printed(&["fault"], &edition_2), b"5 0 15\n");
+    assert_eq!(printed(&["fault"], &edition_2[..15]), b"6 0 0\n");
+    assert_eq!(printed(&["fault"], b""), b"1 0 0\n");
+}
+
+#[test]
+fn the_program_finds_the_fault_of_a_sheet_that_is_far_too_long() {
+    for edition in Edition::ALL {
+        let mut longer = edition.blank_sheet(256, 4);
+        for length in [longer.len() + 1, 53265, 53266, 1 << 20] {
+            longer.resize(length, 0);
+            assert_eq!(printed(&["fault"], &longer), b"6 0 0\n");
+        }
+        longer[2] = 9;
+        assert_eq!(printed(&["fault"], &longer), b"3 0 0\n");
+    }
+}
+
+#[test]
 fn anything_else_gives_usage_and_status_64() {
     for arguments in [
         &[][..],
@@ -153,6 +193,10 @@ fn anything_else_gives_usage_and_status_64() {
         &["steps"],
         &["bench"],
         &["list", "file"],
+        &["fault", "file"],
+        &["faults"],
+        &["vectors", "fault"],
+        &["vectors", "faults", "4"],
         &["dates", "2000"],
         &["Vectors", "blocks"],
         &["--help"],

@@ -15,7 +15,7 @@ fn is_key_length(length: usize) -> bool {
 }
 
 /// All subsets of a list of numbers.
-fn subsets(numbers: &[u8]) -> Vec<Vec<u8>> {
+pub fn subsets(numbers: &[u8]) -> Vec<Vec<u8>> {
     let mut all = vec![Vec::new()];
     for number in numbers {
         for mut subset in all.clone() {
@@ -27,7 +27,7 @@ fn subsets(numbers: &[u8]) -> Vec<Vec<u8>> {
 }
 
 /// The first number of a set, or 0.
-fn first(set: &[u8]) -> u8 {
+pub fn first(set: &[u8]) -> u8 {
     set.iter().copied().min().unwrap_or(0)
 }
 
@@ -212,13 +212,13 @@ fn a_write_gives_the_first_refusal_of_every_set() {
             for way in 0..WAYS {
                 let mut call = call_for(&set, (edition, t), way, &mut random);
                 let before = call.sheet.clone();
-                let answer = reference::write(
+                let answer = unpointed(reference::write(
                     &call.sealing,
                     &call.checking,
                     &mut call.sheet,
                     call.slot,
                     &call.caption,
-                );
+                ));
                 assert_eq!(answer, refused(first(&set)), "{set:?} {way}");
                 assert_eq!(call.sheet == before, !set.is_empty(), "{set:?} {way}");
             }
@@ -240,13 +240,13 @@ fn a_read_gives_the_first_refusal_of_every_set_and_zeroes_its_window() {
         for set in &sets {
             for way in 0..WAYS {
                 let mut call = call_for(set, (edition, t), way, &mut random);
-                let answer = reference::read(
+                let answer = unpointed(reference::read(
                     &call.sealing,
                     &call.checking,
                     &call.sheet,
                     call.slot,
                     &mut call.window,
-                );
+                ));
                 if set.is_empty() {
                     assert_eq!(answer, accepted(40));
                     assert_eq!(call.window, shown(&call.caption));
@@ -313,7 +313,7 @@ fn any_window_but_192_gives_3_and_becomes_zero() {
         write(&keys, &mut sheet, 0, b"caption");
         for length in 0..400 {
             let mut window = vec![0xee; length];
-            let answer = reference::read(&keys.0, &keys.1, &sheet, 0, &mut window);
+            let answer = unpointed(reference::read(&keys.0, &keys.1, &sheet, 0, &mut window));
             if length == 192 {
                 assert_eq!(answer, accepted(7));
                 assert_eq!(window, shown(b"caption"));

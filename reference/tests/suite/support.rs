@@ -1,8 +1,9 @@
 //! Short ways of calling the program.
 
+use crate::broken::Numbers;
 use crate::edition::Edition;
 use crate::random::Random;
-use reference::Answer;
+use reference::{Answer, Pointed};
 use std::io::Write;
 
 pub const CLASSES: [usize; 3] = [4, 6, 8];
@@ -48,6 +49,26 @@ pub fn accepted(length: u16) -> Answer {
 
 pub fn refused(number: u8) -> Answer {
     Answer { number, length: 0 }
+}
+
+/// An answer with its rule, slot and place.
+pub fn pointed(answer: Answer, (rule, slot, place): Numbers) -> Pointed {
+    let Answer { number, length } = answer;
+    Pointed {
+        number,
+        rule,
+        length,
+        slot,
+        place,
+    }
+}
+
+/// The number and length of an answer, of which 4 and 10 point and no other.
+pub fn unpointed(pointed: Pointed) -> Answer {
+    let points = [4, 10].contains(&pointed.number);
+    assert_eq!(pointed.rule != 0, points, "{pointed:?}");
+    assert!(points || (pointed.slot, pointed.place) == (0, 0));
+    pointed.answer()
 }
 
 pub fn encrypt(key: &[u8], block: [u8; 8]) -> [u8; 8] {
@@ -97,7 +118,7 @@ pub fn w_of(sheet: &[u8]) -> u32 {
 pub fn read(keys: &(Vec<u8>, Vec<u8>), sheet: &[u8], slot: usize) -> (Answer, [u8; 192]) {
     let mut window = [0x5a; 192];
     let answer = reference::read(&keys.0, &keys.1, sheet, slot, &mut window);
-    (answer, window)
+    (unpointed(answer), window)
 }
 
 /// A dated read with a window of 192 bytes.
@@ -110,11 +131,11 @@ pub fn dated_read(
 ) -> (Answer, [u8; 192]) {
     let mut window = [0x5a; 192];
     let answer = reference::dated_read(&keys.0, &keys.1, sheet, terms, slot, day, &mut window);
-    (answer, window)
+    (unpointed(answer), window)
 }
 
 pub fn write(keys: &(Vec<u8>, Vec<u8>), sheet: &mut [u8], slot: usize, caption: &[u8]) -> Answer {
-    reference::write(&keys.0, &keys.1, sheet, slot, caption)
+    unpointed(reference::write(&keys.0, &keys.1, sheet, slot, caption))
 }
 
 /// A window that shows a caption.

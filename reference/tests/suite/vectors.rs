@@ -1,10 +1,11 @@
 //! The printed vectors: their form, and that they agree with the library.
 
+use crate::broken::{first_broken, NOWHERE};
 use crate::edition::Edition;
 use crate::support::*;
 use reference::cipher::phi_of_key;
 use reference::modes::cmac_steps;
-use reference::vectors;
+use reference::{vectors, Pointed};
 
 fn lines(text: &str) -> Vec<Vec<&str>> {
     assert!(text.ends_with('\n'));
@@ -305,4 +306,70 @@ fn sheet_with_twin_keys_and_near_twins() {
         assert_eq!(hex(lines[11][4]), [0; 192]);
         assert_eq!(hex(lines[15][4]), [0; 192]);
     }
+}
+
+/// The sheets of `vectors faults`: edition, t.
+fn faulted_sheets() -> impl Iterator<Item = (Edition, usize)> {
+    let old = CLASSES.map(|t| (Edition::One, t));
+    let blanked = CLASSES.map(|t| (Edition::Two(0x5a00 + t as u16), t));
+    old.into_iter().chain(blanked)
+}
+
+/// A sheet of `vectors faults`.
+fn faulted_sheet(keys: &(Vec<u8>, Vec<u8>), edition: Edition, t: usize) -> Vec<u8> {
+    let mut sheet = edition.blank_sheet(3, t);
+    for (slot, length) in [(0, 5), (1, 17), (2, 192)] {
+        let caption = numbered_text(slot, length);
+        assert_eq!(write(keys, &mut sheet, slot, &caption), accepted(0));
+    }
+    assert_eq!(reference::clear(&mut sheet, 1), accepted(0));
+    sheet
+}
+
+/// The slot that is read with a bit of this byte flipped.
+fn slot_read(edition: Edition, byte: usize) -> usize {
+    let fields = edition.field_place(3, 0).start;
+    if byte >= fields {
+        (byte - fields) / 192
+    } else {
+        byte.saturating_sub(edition.header()) / 16
+    }
+}
+
+#[test]
+fn faults() {
+    let text = vectors::faults();
+    let mut rest = &lines(&text)[..];
+    for (edition, t) in faulted_sheets() {
+        let keys = (numbered_key(t, t), numbered_key(t, t + 1));
+        let sheet = faulted_sheet(&keys, edition, t);
+        let lines;
+        (lines, rest) = rest.split_at(1 + 8 * sheet.len());
+        let (number, t) = (edition.number().to_string(), t.to_string());
+        assert_eq!(lines[0].len(), 6);
+        assert_eq!(lines[0][..3], ["sheet", &number, &t]);
+        let bytes = [&keys.0, &keys.1, &sheet].map(Vec::clone);
+        assert_eq!([3, 4, 5].map(|field| hex(lines[0][field])), bytes);
+        for (place, line) in lines[1..].iter().enumerate() {
+            let (byte, bit) = (place / 8, place % 8);
+            let mut flipped = sheet.clone();
+            flipped[byte] ^= 1 << bit;
+            let slot = slot_read(edition, byte);
+            let answer = reference::read(&keys.0, &keys.1, &flipped, slot, &mut [1; 192]);
+            let broken = first_broken(&flipped);
+            if broken != NOWHERE {
+                assert_eq!(answer, pointed(refused(4), broken));
+            }
+            let Pointed {
+                number,
+                rule,
+                slot,
+                place,
+                ..
+            } = answer;
+            let expected = format!("{byte} {bit} {number} {rule} {slot} {place}");
+            assert_eq!(line.join(" "), expected);
+        }
+    }
+    assert!(rest.is_empty());
 }

@@ -1,5 +1,5 @@
 //! Every call made on both programs: the library, over lent memory, is held
-//! to the second program's number, length and bytes.
+//! to the second program's number, length, rule, slot, place and bytes.
 
 mod dated;
 
@@ -7,7 +7,7 @@ use crate::edition::Edition;
 use crate::lent::{Lent, Place};
 use crate::library;
 use crate::sheets::Keys;
-use reference::Answer;
+use reference::{Answer, Pointed};
 use std::fmt::Debug;
 
 /// The two block calls.
@@ -25,6 +25,8 @@ pub struct Both {
     pub calls: u64,
     /// How often each number was answered.
     pub numbers: [u64; 14],
+    /// How often each rule was pointed at.
+    pub rules: [u64; 13],
     pub listings: u64,
 }
 
@@ -35,6 +37,7 @@ impl Both {
             label: label.to_string(),
             calls: 0,
             numbers: [0; 14],
+            rules: [0; 13],
             listings: 0,
         }
     }
@@ -154,7 +157,7 @@ impl Both {
     }
 
     /// A write; `sheet` becomes what both programs leave.
-    pub fn write(&mut self, keys: &Keys, sheet: &mut [u8], slot: usize, caption: &[u8]) -> Answer {
+    pub fn write(&mut self, keys: &Keys, sheet: &mut [u8], slot: usize, caption: &[u8]) -> Pointed {
         let length = sheet.len();
         let call = || {
             let caption = caption.len();
@@ -171,7 +174,7 @@ impl Both {
             slot,
             lent_caption.bytes(),
         );
-        self.hold_answer(call, ours, theirs);
+        self.hold_pointed(call, ours, theirs);
         self.hold_bytes(call, "sheet", &lent_sheet, sheet);
         self.hold_bytes(call, "sealing key", &sealing, &keys.sealing);
         self.hold_bytes(call, "checking key", &checking, &keys.checking);
@@ -198,7 +201,7 @@ impl Both {
         sheet: &[u8],
         slot: usize,
         window: usize,
-    ) -> (Answer, Vec<u8>) {
+    ) -> (Pointed, Vec<u8>) {
         let call = || {
             let length = sheet.len();
             format!("read {slot}, window of {window}, {keys:02x?}, on {length} bytes")
@@ -216,7 +219,7 @@ impl Both {
             slot,
             lent_window.bytes_mut(),
         );
-        self.hold_answer(call, ours, theirs);
+        self.hold_pointed(call, ours, theirs);
         self.hold_bytes(call, "window", &lent_window, &true_window);
         self.hold_bytes(call, "sealing key", &sealing, &keys.sealing);
         self.hold_bytes(call, "checking key", &checking, &keys.checking);
@@ -271,6 +274,11 @@ impl Both {
         self.hold(call, ours, theirs, theirs.number);
     }
 
+    fn hold_pointed(&mut self, call: impl Fn() -> String, ours: Pointed, theirs: Pointed) {
+        self.hold(call, ours, theirs, theirs.number);
+        self.rules[usize::from(theirs.rule)] += 1;
+    }
+
     /// Answers of any kind, and the number that they have.
     fn hold<A: Debug + PartialEq>(
         &mut self,
@@ -308,16 +316,28 @@ impl Both {
         assert_eq!(met, expected, "{}: numbers met", self.label);
     }
 
+    /// Holds that exactly these rules were pointed at.
+    pub fn hold_pointed_at(&self, rules: impl IntoIterator<Item = usize>) {
+        let met = (0..self.rules.len()).filter(|rule| self.rules[*rule] > 0);
+        let (met, expected): (Vec<_>, Vec<_>) = (met.collect(), rules.into_iter().collect());
+        assert_eq!(met, expected, "{}: rules pointed at", self.label);
+    }
+
     /// "12 of 0, 3 of 1": how often each number was answered.
     pub fn numbers_met(&self) -> String {
-        let met = self
-            .numbers
-            .iter()
-            .enumerate()
-            .filter(|(_, times)| **times > 0);
-        let parts: Vec<String> = met
-            .map(|(number, times)| format!("{times} of {number}"))
-            .collect();
-        parts.join(", ")
+        times_met(&self.numbers)
     }
+
+    /// The same of the rules.
+    pub fn rules_met(&self) -> String {
+        times_met(&self.rules)
+    }
+}
+
+fn times_met(counts: &[u64]) -> String {
+    let met = counts.iter().enumerate().filter(|(_, times)| **times > 0);
+    let parts: Vec<String> = met
+        .map(|(number, times)| format!("{times} of {number}"))
+        .collect();
+    parts.join(", ")
 }

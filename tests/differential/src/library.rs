@@ -1,12 +1,21 @@
 //! The calls of the static library, over slices.
 
-use reference::{Answer, DateAnswer, DayAnswer};
+use reference::{Answer, DateAnswer, DayAnswer, Pointed};
 
 mod c {
     #[repr(C)]
     pub struct Answer {
         pub number: u8,
         pub length: u16,
+    }
+
+    #[repr(C)]
+    pub struct Pointed {
+        pub number: u8,
+        pub rule: u8,
+        pub length: u16,
+        pub slot: u16,
+        pub place: u16,
     }
 
     #[repr(C)]
@@ -76,7 +85,7 @@ mod c {
             slot: usize,
             caption: *const u8,
             caption_len: usize,
-        ) -> Answer;
+        ) -> Pointed;
         pub fn captions_clear(sheet: *mut u8, sheet_len: usize, slot: usize) -> Answer;
         pub fn captions_read(
             sealing_key: *const u8,
@@ -88,7 +97,7 @@ mod c {
             slot: usize,
             window: *mut u8,
             window_len: usize,
-        ) -> Answer;
+        ) -> Pointed;
         pub fn captions_dated_read(
             sealing_key: *const u8,
             sealing_len: usize,
@@ -102,7 +111,7 @@ mod c {
             day: usize,
             window: *mut u8,
             window_len: usize,
-        ) -> Answer;
+        ) -> Pointed;
         pub fn captions_day_of_date(year: usize, month: usize, day: usize) -> Day;
         pub fn captions_date_of_day(day: usize) -> Date;
         pub fn captions_list(
@@ -120,6 +129,18 @@ fn answer(answer: c::Answer) -> Answer {
     Answer {
         number: answer.number,
         length: answer.length,
+    }
+}
+
+/// The same of an answer that points.
+#[inline]
+fn pointed(answer: c::Pointed) -> Pointed {
+    Pointed {
+        number: answer.number,
+        rule: answer.rule,
+        length: answer.length,
+        slot: answer.slot,
+        place: answer.place,
     }
 }
 
@@ -197,8 +218,8 @@ pub fn write(
     sheet: &mut [u8],
     slot: usize,
     caption: &[u8],
-) -> Answer {
-    answer(unsafe {
+) -> Pointed {
+    pointed(unsafe {
         c::captions_write(
             sealing_key.as_ptr(),
             sealing_key.len(),
@@ -225,8 +246,8 @@ pub fn read(
     sheet: &[u8],
     slot: usize,
     window: &mut [u8],
-) -> Answer {
-    answer(unsafe {
+) -> Pointed {
+    pointed(unsafe {
         c::captions_read(
             sealing_key.as_ptr(),
             sealing_key.len(),
@@ -250,8 +271,8 @@ pub fn dated_read(
     slot: usize,
     day: usize,
     window: &mut [u8],
-) -> Answer {
-    answer(unsafe {
+) -> Pointed {
+    pointed(unsafe {
         c::captions_dated_read(
             sealing_key.as_ptr(),
             sealing_key.len(),

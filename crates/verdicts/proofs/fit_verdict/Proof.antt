@@ -9,4 +9,5 @@ fit-verdict-spec =
     (tie.spec
     (λ c κs. search needs)
     (λ c. search fit-yes)
+    (λ c κs. search needs)
     (λ c. search fit-no))

@@ -3,7 +3,7 @@
 use super::Both;
 use crate::library;
 use crate::sheets::Keys;
-use reference::{Answer, DateAnswer, DayAnswer};
+use reference::{DateAnswer, DayAnswer, Pointed};
 
 impl Both {
     /// The day of a date.
@@ -34,7 +34,7 @@ impl Both {
         slot: usize,
         day: usize,
         window: usize,
-    ) -> (Answer, Vec<u8>) {
+    ) -> (Pointed, Vec<u8>) {
         let call = || {
             let length = sheet.len();
             format!(
@@ -64,7 +64,7 @@ impl Both {
             day,
             lent_window.bytes_mut(),
         );
-        self.hold_answer(call, ours, theirs);
+        self.hold_pointed(call, ours, theirs);
         self.hold_bytes(call, "window", &lent_window, &true_window);
         self.hold_bytes(call, "sealing key", &sealing, &keys.sealing);
         self.hold_bytes(call, "checking key", &checking, &keys.checking);

@@ -34,9 +34,10 @@ fn every_bit(t: usize) {
             }
         }
     }
-    let (calls, met) = (both.calls, both.numbers_met());
+    both.hold_pointed_at((0..=11).filter(|rule| *rule != 1));
+    let (calls, met, rules) = (both.calls, both.numbers_met(), both.rules_met());
     report(&format!(
-        "sheet: {bits} single bits flipped, t = {t}, {unfit} of them unfit, {calls} calls: {met}"
+        "sheet: {bits} single bits flipped, t = {t}, {unfit} of them unfit, {calls} calls: {met}; rules: {rules}"
     ));
 }
 

@@ -191,7 +191,7 @@ impl State {
         let page = self.book.as_ref().and_then(|book| book.reading(slot));
         if let Some((true_answer, true_window)) = page {
             asked.pages += 1;
-            assert_eq!(answer, true_answer, "{}: read {slot}", both.label);
+            assert_eq!(answer.answer(), true_answer, "{}: read {slot}", both.label);
             assert_eq!(window, true_window, "{}: read {slot}", both.label);
         }
     }
@@ -213,7 +213,12 @@ impl State {
                 (true_answer, true_window) = (Answer::refused(NOT_ON_SHOW), [0; FIELD]);
             }
             asked.pages += 1;
-            assert_eq!(answer, true_answer, "{}: read {slot} on {day}", both.label);
+            assert_eq!(
+                answer.answer(),
+                true_answer,
+                "{}: read {slot} on {day}",
+                both.label
+            );
             assert_eq!(window, true_window, "{}: read {slot} on {day}", both.label);
         }
     }

@@ -9,6 +9,7 @@ mod edges;
 mod faults;
 mod fences;
 mod lists;
+mod pointing;
 mod serials;
 
 use differential::both::Both;

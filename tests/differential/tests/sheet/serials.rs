@@ -35,13 +35,15 @@ fn hold_fit(both: &mut Both, keys: &Keys, sheet: &[u8], fits: bool) {
     for slot in 0..=SLOTS {
         let (mut written, mut cleared) = (sheet.to_vec(), sheet.to_vec());
         let answers = [
-            both.read(keys, sheet, slot, FIELD).0,
-            both.dated_read(keys, sheet, &terms, slot, 9, FIELD).0,
-            both.write(keys, &mut written, slot, b"another"),
-            both.clear(&mut cleared, slot),
+            both.read(keys, sheet, slot, FIELD).0.number,
+            both.dated_read(keys, sheet, &terms, slot, 9, FIELD)
+                .0
+                .number,
+            both.write(keys, &mut written, slot, b"another").number,
+            both.clear(&mut cleared, slot).number,
         ];
-        for answer in answers {
-            assert_eq!(answer.number != UNFIT_SHEET, fits, "{}", both.label);
+        for number in answers {
+            assert_eq!(number != UNFIT_SHEET, fits, "{}", both.label);
         }
         assert!(fits || written == sheet && cleared == sheet);
     }
