@@ -1,6 +1,6 @@
-/* CMAC, read and write by the library before and after a change, by turns.
- * bench/beside builds it: the functions before_... are the earlier library's, and
- * BEFORE is the answer that its read and write give. */
+/* Block, CMAC, read, dated read and write by the library before and after a change,
+ * by turns. bench/beside builds it: the functions before_... are the earlier
+ * library's, and BEFORE is the answer that its reads and write give. */
 #define _POSIX_C_SOURCE 199309L
 #include "captions.h"
 #include <stdio.h>
@@ -8,16 +8,23 @@
 #include <string.h>
 #include <time.h>
 
+captions_answer before_captions_encrypt_block(const uint8_t *, size_t, const uint8_t *, size_t, uint16_t, uint8_t *,
+                                              size_t);
+captions_answer before_captions_decrypt_block(const uint8_t *, size_t, const uint8_t *, size_t, uint16_t, uint8_t *,
+                                              size_t);
 captions_answer before_captions_cmac(const uint8_t *, size_t, const uint8_t *, size_t, uint8_t *, size_t);
 BEFORE before_captions_read(const uint8_t *, size_t, const uint8_t *, size_t, const uint8_t *, size_t,
-                                     size_t, uint8_t *, size_t);
+                            size_t, uint8_t *, size_t);
+BEFORE before_captions_dated_read(const uint8_t *, size_t, const uint8_t *, size_t, const uint8_t *, size_t,
+                                  const uint8_t *, size_t, size_t, size_t, uint8_t *, size_t);
 BEFORE before_captions_write(const uint8_t *, size_t, const uint8_t *, size_t, uint8_t *, size_t, size_t,
-                                      const uint8_t *, size_t);
+                             const uint8_t *, size_t);
 
-enum { ROUNDS = 301, FULL = 53256 };
+enum { ROUNDS = 301, FULL = 53256, DAY = 9000 };
 
-static uint8_t sealing[16], checking[16], text[65536], sheet[FULL], out[192];
+static uint8_t sealing[16], checking[16], text[65536], sheet[FULL], terms[CAPTIONS_TERMS(256)], out[192];
 static size_t key, length, slots, bytes;
+static uint16_t path;
 
 typedef captions_answer call(void);
 
@@ -27,6 +34,16 @@ static captions_answer plain(int number, int value)
     return answer;
 }
 
+static captions_answer encrypt_before(void)
+{
+    return before_captions_encrypt_block(sealing, key, text, 8, path, out, 8);
+}
+static captions_answer encrypt_after(void) { return captions_encrypt_block(sealing, key, text, 8, path, out, 8); }
+static captions_answer decrypt_before(void)
+{
+    return before_captions_decrypt_block(sealing, key, text, 8, path, out, 8);
+}
+static captions_answer decrypt_after(void) { return captions_decrypt_block(sealing, key, text, 8, path, out, 8); }
 static captions_answer cmac_before(void) { return before_captions_cmac(sealing, key, text, length, out, 8); }
 static captions_answer cmac_after(void) { return captions_cmac(sealing, key, text, length, out, 8); }
 static captions_answer read_before(void)
@@ -37,6 +54,18 @@ static captions_answer read_before(void)
 static captions_answer read_after(void)
 {
     captions_pointed answer = captions_read(sealing, 16, checking, 16, sheet, bytes, slots - 1, out, 192);
+    return plain(answer.number, answer.length);
+}
+static captions_answer dated_before(void)
+{
+    BEFORE answer = before_captions_dated_read(sealing, 16, checking, 16, sheet, bytes, terms, CAPTIONS_TERMS(slots),
+                                               slots - 1, DAY, out, 192);
+    return plain(answer.number, answer.length);
+}
+static captions_answer dated_after(void)
+{
+    captions_pointed answer = captions_dated_read(sealing, 16, checking, 16, sheet, bytes, terms, CAPTIONS_TERMS(slots),
+                                                  slots - 1, DAY, out, 192);
     return plain(answer.number, answer.length);
 }
 static captions_answer write_before(void)
@@ -115,8 +144,13 @@ static void full_sheet(size_t n)
     memcpy(sheet, header, sizeof header);
     sheet[0] = (uint8_t)(n / 256);
     sheet[1] = (uint8_t)(n % 256);
-    for (size_t i = 0; i < n; i++)
+    terms[0] = sheet[0];
+    terms[1] = sheet[1];
+    for (size_t i = 0; i < n; i++) {
+        static const uint8_t term[4] = {DAY / 256, DAY % 256, DAY / 256, DAY % 256};
+        memcpy(terms + CAPTIONS_TERMS(i), term, sizeof term);
         captions_write(sealing, 16, checking, 16, sheet, bytes, i, text, 192);
+    }
 }
 
 int main(void)
@@ -129,6 +163,15 @@ int main(void)
         checking[i] = (uint8_t)(31 * i + 5);
     }
     printf("| Call; slots of a sheet | Before, µs | After, µs | After / before |\n|---|---|---|---|\n");
+    static const uint16_t paths[] = {0xffff, 0x0555};
+    for (size_t p = 0; p < 2; p++)
+        for (key = 8; key <= 16; key += 4) {
+            path = paths[p];
+            snprintf(name, sizeof name, "block encrypted by path 0x%04x, %zu-bit key", path, 8 * key);
+            row(name, encrypt_before, encrypt_after);
+            snprintf(name, sizeof name, "block decrypted by path 0x%04x, %zu-bit key", path, 8 * key);
+            row(name, decrypt_before, decrypt_after);
+        }
     static const size_t lengths[] = {0, 192, 65536};
     for (size_t l = 0; l < 3; l++)
         for (key = 8; key <= 16; key += 4) {
@@ -140,6 +183,8 @@ int main(void)
         full_sheet(n);
         snprintf(name, sizeof name, "read, full sheet, %zu", n);
         row(name, read_before, read_after);
+        snprintf(name, sizeof name, "dated read, full sheet, %zu", n);
+        row(name, dated_before, dated_after);
         snprintf(name, sizeof name, "write, full sheet, %zu", n);
         row(name, write_before, write_after);
     }

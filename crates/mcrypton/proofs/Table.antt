@@ -2,12 +2,12 @@
 use mathlib.Core.Path.{refl}
 use Prim.Native.Nat.{ℕ}
 use Rattle.rounds.specs.Word.{rotate1, rotate}
-use Rattle.rounds.specs.Array.{sboxes, sbox, γ, π, τ, encryptTables, entry, wordRow}
+use Rattle.rounds.specs.Array.{sboxes, sbox, γ, π, τ, tables, entry, wordRow}
 use Rattle.schedule.specs.Schedule.{Count, four, six, eight, byCount, forwardWords, forward4, forward6, forward8, forward, start, eightWords, startWords, start4, start6, start8, backStart, times, register, backRegister, constants, registerT, lastWord, roundKey, encryptionKey, decryptionKey}
 use Rattle.mcrypton.specs.Cases.{Cases}
 
 pub cases : Cases
-unfolding rotate1 rotate sboxes sbox γ π τ encryptTables entry wordRow byCount forwardWords forward4 forward6 forward8 forward start eightWords startWords start4 start6 start8 backStart times register backRegister constants registerT lastWord roundKey encryptionKey decryptionKey
+unfolding rotate1 rotate sboxes sbox γ π τ tables entry wordRow byCount forwardWords forward4 forward6 forward8 forward start eightWords startWords start4 start6 start8 backStart times register backRegister constants registerT lastWord roundKey encryptionKey decryptionKey
 cases =
     record {
       a = refl;

@@ -27,7 +27,7 @@ fn path_round(
     k: [u16; 4],
     a: [u16; 4],
 ) -> [u16; 4]
-    requires { ⌜ (now t ≡ tables d) × (0 < r) × (r < 13) ⌝ }
+    requires { ⌜ (now t ≡ tables) × (0 < r) × (r < 13) ⌝ }
     ensures { λ z. ⌜ z ≡ pathRound d p r k a ⌝ }
 {
     let bit = (p >> (r - 1)) % 2;
@@ -44,7 +44,7 @@ fn encrypt_by_path(p: u16, u: Register, b: [u16; 4]) -> [u16; 4]
     ensures { λ z. ⌜ z ≡ encryptFrom p u b ⌝ }
 {
     let s = rounds::sbox_tables();
-    let t = rounds::word_tables(Direction::Encrypt);
+    let t = rounds::word_tables();
     let mut v = u;
     let mut a = rounds::sigma(v.round_key(&s), b);
     let mut r: usize = 0;
@@ -64,7 +64,7 @@ fn decrypt_by_path(p: u16, u: Register, b: [u16; 4]) -> [u16; 4]
     ensures { λ z. ⌜ z ≡ decryptFrom p u b ⌝ }
 {
     let s = rounds::sbox_tables();
-    let t = rounds::word_tables(Direction::Decrypt);
+    let t = rounds::word_tables();
     let mut v = u;
     let mut a = rounds::sigma(rounds::phi(v.round_key(&s)), b);
     let mut r: usize = 0;
@@ -92,23 +92,23 @@ pub fn encrypt_words(u: Register, b: [u16; 4]) -> [u16; 4]
     ensures { λ z. ⌜ z ≡ encryptFrom 0 u b ⌝ }
 {
     let s = rounds::sbox_tables();
-    let t = rounds::word_tables(Direction::Encrypt);
+    let t = rounds::word_tables();
     let mut v = u;
     let mut a = rounds::sigma(v.round_key(&s), b);
     let mut r: usize = 0;
     while r < 12 {
         let u1 = v.forward();
         let k1 = u1.round_key(&s);
-        let a1 = rounds::word_round(&t, Direction::Encrypt, k1, a);
+        let a1 = rounds::encrypt_round(&t, k1, a);
         let u2 = u1.forward();
         let k2 = u2.round_key(&s);
-        let a2 = rounds::word_round(&t, Direction::Encrypt, k2, a1);
+        let a2 = rounds::encrypt_round(&t, k2, a1);
         let u3 = u2.forward();
         let k3 = u3.round_key(&s);
-        let a3 = rounds::word_round(&t, Direction::Encrypt, k3, a2);
+        let a3 = rounds::encrypt_round(&t, k3, a2);
         let u4 = u3.forward();
         let k4 = u4.round_key(&s);
-        let a4 = rounds::word_round(&t, Direction::Encrypt, k4, a3);
+        let a4 = rounds::encrypt_round(&t, k4, a3);
         v = u4;
         a = a4;
         r += 4;
@@ -122,23 +122,23 @@ pub fn decrypt_words(u: Register, b: [u16; 4]) -> [u16; 4]
     ensures { λ z. ⌜ z ≡ decryptFrom 0 u b ⌝ }
 {
     let s = rounds::sbox_tables();
-    let t = rounds::word_tables(Direction::Decrypt);
+    let t = rounds::word_tables();
     let mut v = u;
     let mut a = rounds::sigma(rounds::phi(v.round_key(&s)), b);
     let mut r: usize = 0;
     while r < 12 {
         let u1 = v.backward();
         let k1 = rounds::phi(u1.round_key(&s));
-        let a1 = rounds::word_round(&t, Direction::Decrypt, k1, a);
+        let a1 = rounds::decrypt_round(&t, k1, a);
         let u2 = u1.backward();
         let k2 = rounds::phi(u2.round_key(&s));
-        let a2 = rounds::word_round(&t, Direction::Decrypt, k2, a1);
+        let a2 = rounds::decrypt_round(&t, k2, a1);
         let u3 = u2.backward();
         let k3 = rounds::phi(u3.round_key(&s));
-        let a3 = rounds::word_round(&t, Direction::Decrypt, k3, a2);
+        let a3 = rounds::decrypt_round(&t, k3, a2);
         let u4 = u3.backward();
         let k4 = rounds::phi(u4.round_key(&s));
-        let a4 = rounds::word_round(&t, Direction::Decrypt, k4, a3);
+        let a4 = rounds::decrypt_round(&t, k4, a3);
         v = u4;
         a = a4;
         r += 4;
@@ -146,13 +146,14 @@ pub fn decrypt_words(u: Register, b: [u16; 4]) -> [u16; 4]
     rounds::phi(a)
 }
 
-// Four blocks decrypted in one walk of the register: a round key is made once for the four.
+// Four blocks decrypted in one walk of the register: a round key is made once for the four. With two rounds a turn the
+// four arrays are laid out for the next turn half as often.
 pub fn decrypt_four(u: Register, b: [[u16; 4]; 4]) -> [[u16; 4]; 4]
     requires { ⌜ u .round ≡ 12 ⌝ }
     ensures { λ z. ⌜ z ≡ map (decryptFrom 0 u) b ⌝ }
 {
     let s = rounds::sbox_tables();
-    let t = rounds::word_tables(Direction::Decrypt);
+    let t = rounds::word_tables();
     let b0 = b[0];
     let b1 = b[1];
     let b2 = b[2];
@@ -165,18 +166,24 @@ pub fn decrypt_four(u: Register, b: [[u16; 4]; 4]) -> [[u16; 4]; 4]
     let mut z = rounds::sigma(k0, b3);
     let mut r: usize = 0;
     while r < 12 {
-        let next = v.backward();
-        let k = rounds::phi(next.round_key(&s));
-        let w1 = rounds::word_round(&t, Direction::Decrypt, k, w);
-        let x1 = rounds::word_round(&t, Direction::Decrypt, k, x);
-        let y1 = rounds::word_round(&t, Direction::Decrypt, k, y);
-        let z1 = rounds::word_round(&t, Direction::Decrypt, k, z);
-        v = next;
-        w = w1;
-        x = x1;
-        y = y1;
-        z = z1;
-        r += 1;
+        let u1 = v.backward();
+        let k1 = rounds::phi(u1.round_key(&s));
+        let w1 = rounds::decrypt_round(&t, k1, w);
+        let x1 = rounds::decrypt_round(&t, k1, x);
+        let y1 = rounds::decrypt_round(&t, k1, y);
+        let z1 = rounds::decrypt_round(&t, k1, z);
+        let u2 = u1.backward();
+        let k2 = rounds::phi(u2.round_key(&s));
+        let w2 = rounds::decrypt_round(&t, k2, w1);
+        let x2 = rounds::decrypt_round(&t, k2, x1);
+        let y2 = rounds::decrypt_round(&t, k2, y1);
+        let z2 = rounds::decrypt_round(&t, k2, z1);
+        v = u2;
+        w = w2;
+        x = x2;
+        y = y2;
+        z = z2;
+        r += 2;
     }
     [
         rounds::phi(w),

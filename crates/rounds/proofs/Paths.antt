@@ -6,35 +6,47 @@ use native.Mathlib.Omega.{arith}
 use lib.Bits.{bitAnd, bitXor, xor-block, xor-lt}
 use lib.Dec.{lit<}
 use lib.ListN.{getD}
-use Rattle.octets.proofs.Test.{agree2, agree3}
+use Rattle.octets.proofs.Test.{agree2}
 use Rattle.rounds.specs.Word.{rotate1, rotate, row, nibble, xor4}
-use Rattle.rounds.specs.Array.{cell, sboxes, sbox, offset, mask, γ, π, τ, σ, φ, nibbleRound, encryptTables, decryptTables, tables, entry, wordRow, wordRound, ruleEntry}
+use Rattle.rounds.specs.Array.{cell, sboxes, sbox, offset, mask, γ, π, τ, σ, nibbleRound, tables, turned, entry, wordRow, wordRound}
+use Rattle.rounds.specs.Lookup.{firstMask, ruleEntry, Lookup}
 use Rattle.rounds.specs.declared.Direction.{Direction}
 use Rattle.rounds.specs.declared.Direction.the-variants.{Encrypt, Decrypt}
 use Rattle.rounds.proofs.Xor4.{xor4-ext}
 use Rattle.rounds.proofs.Blocks.{row-ext, cell-π, cell-γ, cell-lt, sbox-lt, masked-lt}
 
--- every entry of both sets
-pub table-rule : (d : Direction) (s x : ℕ) → s < 4 → x < 16 → entry d s x ≡ ruleEntry d s x
-unfolding entry encryptTables decryptTables sbox sboxes rotate rotate1
-table-rule Encrypt = agree2 4 16 (entry Encrypt) (ruleEntry Encrypt) tt
-table-rule Decrypt = agree2 4 16 (entry Decrypt) (ruleEntry Decrypt) tt
+-- each index is taken modulo 4
+period : (n : ℕ) → n % 4 % 4 ≡ n % 4
+period n = omega arith
 
--- what nibble k of column i adds to the new row i, by the rule of the entry
-column-rule : (d : Direction) (i k x : ℕ) → i < 4 → k < 4 → x < 16
-    → row (λ j. bitAnd (sbox (i + k + offset d) x) (mask (i + j + k))) ≡ ruleEntry d ((i + k + offset d) % 4) x
-unfolding sbox sboxes rotate rotate1
-column-rule Encrypt = agree3 4 4 16 (λ i k x. row (λ j. bitAnd (sbox (i + k + 0) x) (mask (i + j + k)))) (λ i k x. ruleEntry Encrypt ((i + k + 0) % 4) x) tt
-column-rule Decrypt = agree3 4 4 16 (λ i k x. row (λ j. bitAnd (sbox (i + k + 2) x) (mask (i + j + k)))) (λ i k x. ruleEntry Decrypt ((i + k + 2) % 4) x) tt
+mask-at : (m n : ℕ) → m % 4 ≡ n % 4 → mask m ≡ mask n
+mask-at m n e = ap (λ (i : ℕ). getD (0xe ∷ 0xd ∷ 0xb ∷ 0x7 ∷ []) i 0) e
 
-entry-period : (d : Direction) (s x : ℕ) → entry d (s % 4) x ≡ entry d s x
+-- the rule of the four tables, entry by entry
+four-tables : (d : Direction) (s x : ℕ) → s < 4 → x < 16 → entry d s x ≡ ruleEntry d s x
+unfolding entry tables sbox sboxes rotate rotate1
+four-tables Encrypt = agree2 4 16 (entry Encrypt) (ruleEntry Encrypt) tt
+four-tables Decrypt = agree2 4 16 (entry Decrypt) (ruleEntry Decrypt) tt
+
+table-rule : (d : Direction) (s x : ℕ) → x < 16 → entry d s x ≡ ruleEntry d s x
+unfolding entry sbox
+table-rule d s x h =
+    ap (λ (i : ℕ). turned d (getD (getD tables i []) x 0)) (sym (period s))
+    ∙ four-tables d (s % 4) x (omega arith) h
+    ∙ row-ext (λ j hj. ap₂ bitAnd (ap (λ (i : ℕ). getD (getD sboxes i []) x 0) (period s)) (mask-at (s % 4 + j + firstMask d) (s + j + firstMask d) (omega arith)))
+
+pub lookup : Lookup
 unfolding entry
-entry-period d s x = ap (λ (n : ℕ). getD (getD (tables d) n []) x 0) {x = s % 4 % 4} {y = s % 4} (omega arith)
+lookup = record { rule = table-rule; turn = λ s x. refl }
 
-column : (d : Direction) (i k x : ℕ) → i < 4 → k < 4 → x < 16
+-- what nibble k of column i adds to the new row i: for decryption the S-box is two on and the first mask two on from there, which is m_(i + k) again
+column : (d : Direction) (i k x : ℕ) → x < 16
     → row (λ j. bitAnd (sbox (i + k + offset d) x) (mask (i + j + k))) ≡ entry d (i + k + offset d) x
-column d i k x hi hk hx =
-    column-rule d i k x hi hk hx ∙ sym (table-rule d ((i + k + offset d) % 4) x (omega arith) hx) ∙ entry-period d (i + k + offset d) x
+column d i k x h = row-ext (λ j hj. ap (bitAnd (sbox (i + k + offset d) x)) (mask-at _ _ (on d j))) ∙ sym (table-rule d (i + k + offset d) x h)
+  where
+    on : (d : Direction) (j : ℕ) → (i + j + k) % 4 ≡ (i + k + offset d + j + firstMask d) % 4
+    on Encrypt j = omega arith
+    on Decrypt j = omega arith
 
 row-xor : (f g : ℕ → ℕ) → ((j : ℕ) → f j < 16) → ((j : ℕ) → g j < 16) → row (λ j. bitXor (f j) (g j)) ≡ bitXor (row f) (row g)
 row-xor f g hf hg =
@@ -57,7 +69,7 @@ new-row d a i hi =
     ∙ xor4-ext (λ k hk. ap (λ (x : ℕ). bitAnd x (mask (i + j + k))) (cell-γ a k i hk hi d)))
     ∙ row-xor4 (λ k j. bitAnd (sbox (i + k + offset d) (cell a k i)) (mask (i + j + k)))
     (λ k j. masked-lt (sbox (i + k + offset d) (cell a k i)) (mask (i + j + k)) (sbox-lt (i + k + offset d) (cell a k i) (cell-lt a k i)))
-    ∙ xor4-ext (λ k hk. column d i k (cell a k i) hi hk (cell-lt a k i))
+    ∙ xor4-ext (λ k hk. column d i k (cell a k i) (cell-lt a k i))
 
 pub same-round : (d : Direction) (k a : List ℕ) → wordRound d k a ≡ nibbleRound d k a
 unfolding τ

@@ -9,7 +9,7 @@ use lib.Dec.{lit<}
 use lib.ListN.{getD}
 use Rattle.octets.proofs.Test.{agree3}
 use Rattle.rounds.specs.Word.{rotate, row, nibble, xor4}
-use Rattle.rounds.specs.Array.{cell, sboxes, sbox, offset, mask, γ, σ, φ, tables, entry, wordRow, wordRound}
+use Rattle.rounds.specs.Array.{cell, sboxes, sbox, offset, mask, γ, φ}
 use Rattle.rounds.specs.declared.Direction.{Direction}
 use Rattle.rounds.proofs.Xor4.{cases4, xor4-ext, xor4-cycle}
 use Rattle.rounds.proofs.Rotation.{rotate-lt, rotate-add, shift-four}
@@ -27,16 +27,6 @@ pub gamma-is : (d : Direction) (a : List ℕ) (o : ℕ) {p q r s : ℕ} → o �
     → p ∷ q ∷ r ∷ s ∷ [] ≡ γ d a
 unfolding γ
 gamma-is d a o e p q r s = rw (p, q, r, s, e)
-
--- a round by words, where the direction's tables are lent as t and o is what it adds to their index
-pub word-round-is : (d : Direction) (k a : List ℕ) (t : List (List ℕ)) (o : ℕ) {p q r s : ℕ} {z : List ℕ} → t ≡ tables d → o ≡ offset d
-    → p ≡ xor4 (λ k. getD (getD t ((0 + k + o) % 4) []) (cell a k 0) 0)
-    → q ≡ xor4 (λ k. getD (getD t ((1 + k + o) % 4) []) (cell a k 1) 0)
-    → r ≡ xor4 (λ k. getD (getD t ((2 + k + o) % 4) []) (cell a k 2) 0)
-    → s ≡ xor4 (λ k. getD (getD t ((3 + k + o) % 4) []) (cell a k 3) 0)
-    → z ≡ σ k (p ∷ q ∷ r ∷ s ∷ []) → z ≡ wordRound d k a
-unfolding wordRow entry
-word-round-is d k a t o e f p q r s z = z ∙ rw (p, q, r, s, e, f)
 
 -- ---- φ by rotations
 

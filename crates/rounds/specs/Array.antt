@@ -81,8 +81,8 @@ abbrev pub φ : List ℕ → List ℕ
 -- ---- document 000, 4.1
 
 -- the word tables SS0 to SS3
-unfoldable pub encryptTables : List (List ℕ)
-encryptTables =
+unfoldable pub tables : List (List ℕ)
+tables =
     (0x4404 ∷ 0xedb7 ∷ 0x2133 ∷ 0x8880 ∷ 0xcd95 ∷ 0xa8a2 ∷ 0xcc84 ∷ 0x0000
     ∷ 0xa9b3 ∷ 0x4515 ∷ 0x6537 ∷ 0xeca6 ∷ 0x2022 ∷ 0x6426 ∷ 0x0111 ∷ 0x8991 ∷ [])
     ∷ (0x1110 ∷ 0xc84c ∷ 0x5376 ∷ 0x8a2a ∷ 0x4266 ∷ 0xd95c ∷ 0x5154 ∷ 0x1332
@@ -93,26 +93,14 @@ encryptTables =
     ∷ 0x4cc8 ∷ 0x6eca ∷ 0x3213 ∷ 0x1899 ∷ 0x1011 ∷ 0x5451 ∷ 0x7edb ∷ 0x0888 ∷ [])
     ∷ []
 
--- the second set: each entry turned by 8 bits
-unfoldable pub decryptTables : List (List ℕ)
-decryptTables =
-    (0x0444 ∷ 0xb7ed ∷ 0x3321 ∷ 0x8088 ∷ 0x95cd ∷ 0xa2a8 ∷ 0x84cc ∷ 0x0000
-    ∷ 0xb3a9 ∷ 0x1545 ∷ 0x3765 ∷ 0xa6ec ∷ 0x2220 ∷ 0x2664 ∷ 0x1101 ∷ 0x9189 ∷ [])
-    ∷ (0x1011 ∷ 0x4cc8 ∷ 0x7653 ∷ 0x2a8a ∷ 0x6642 ∷ 0x5cd9 ∷ 0x5451 ∷ 0x3213
-    ∷ 0x7edb ∷ 0x3a9b ∷ 0x2202 ∷ 0x0000 ∷ 0x0888 ∷ 0x4440 ∷ 0x1899 ∷ 0x6eca ∷ [])
-    ∷ (0x6537 ∷ 0xeca6 ∷ 0xcc84 ∷ 0x2022 ∷ 0x0000 ∷ 0x8991 ∷ 0xcd95 ∷ 0xa8a2
-    ∷ 0x2133 ∷ 0xedb7 ∷ 0x4515 ∷ 0x8880 ∷ 0x6426 ∷ 0x4404 ∷ 0xa9b3 ∷ 0x0111 ∷ [])
-    ∷ (0x9b3a ∷ 0x0000 ∷ 0x8a2a ∷ 0x5376 ∷ 0xd95c ∷ 0x4266 ∷ 0x4044 ∷ 0x0222
-    ∷ 0xc84c ∷ 0xca6e ∷ 0x1332 ∷ 0x9918 ∷ 0x1110 ∷ 0x5154 ∷ 0xdb7e ∷ 0x8808 ∷ [])
-    ∷ []
+-- what a direction makes of an entry: for decryption it is turned by 8 bits
+abbrev pub turned : Direction → ℕ → ℕ
+turned Encrypt w = w
+turned Decrypt w = rotate 8 w
 
-abbrev pub tables : Direction → List (List ℕ)
-tables Encrypt = encryptTables
-tables Decrypt = decryptTables
-
--- entry x of table s, s taken modulo 4, of the direction's set
+-- the lookup: entry x of table s, s taken modulo 4, as the direction takes it
 unfoldable pub entry : Direction → ℕ → ℕ → ℕ
-entry d s x = getD (getD (tables d) (s % 4) []) x 0
+entry d s x = turned d (getD (getD tables (s % 4) []) x 0)
 
 -- one round by words: new row i is the exclusive or over k of an entry for the nibble in row k, column i, and of key word i
 unfoldable pub wordRow : Direction → List ℕ → ℕ → ℕ
@@ -120,12 +108,3 @@ wordRow d a i = xor4 (λ k. entry d (i + k + offset d) (cell a k i))
 
 abbrev pub wordRound : Direction → List ℕ → List ℕ → List ℕ
 wordRound d k a = σ k (wordRow d a 0 ∷ wordRow d a 1 ∷ wordRow d a 2 ∷ wordRow d a 3 ∷ [])
-
--- what the entries of the tables are (document 000, 4.1, with its index j ending at 15):
--- S_s(x) masked by m_s, m_(s+1), m_(s+2) and m_(s+3), and for decryption turned by 8 bits
-abbrev pub turned : Direction → ℕ → ℕ
-turned Encrypt w = w
-turned Decrypt w = rotate 8 w
-
-abbrev pub ruleEntry : Direction → ℕ → ℕ → ℕ
-ruleEntry d s x = turned d (row (λ j. bitAnd (sbox s x) (mask (s + j))))

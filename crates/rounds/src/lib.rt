@@ -1,11 +1,10 @@
 // One round of mCrypton (document 000, 2.1, 2.2 and 4.1) on the 4 by 4 array of nibbles, held as its four row words.
 ghost use mathlib.Core.Path.{_≡_};
-ghost use mathlib.Core.List.{[]};
-ghost use lib.ListN.{getD};
 ghost use lib.Bits.{bitAnd};
-ghost use Prim.Native.Nat.{_+_, _*_, _%_, _<_};
+ghost use Prim.Native.Nat.{_+_, _*_, _<_};
 ghost use Rattle.rounds.specs.Word.{rotate as rotated, row, nibble as nibbleOf, xor4};
-ghost use Rattle.rounds.specs.Array.{sboxes, sbox, offset, opposite as oppositeOf, mask as maskOf, cell, γ, π, τ, σ, φ, nibbleRound, inverseRound, tables, wordRound};
+ghost use Rattle.rounds.specs.Array.{sboxes, sbox, offset, opposite as oppositeOf, mask as maskOf, cell, γ, π, τ, σ, φ, nibbleRound, inverseRound, tables, entry, wordRow, wordRound};
+ghost use Rattle.rounds.specs.declared.Direction.the-variants.{Encrypt, Decrypt};
 
 pub enum Direction {
     Encrypt,
@@ -21,7 +20,7 @@ const SBOXES: [[u16; 16]; 4] = [
 
 const MASKS: [u16; 4] = [14, 13, 11, 7];
 
-const ENCRYPT_TABLES: [[u16; 16]; 4] = [
+const WORD_TABLES: [[u16; 16]; 4] = [
     [
         0x4404,
         0xedb7,
@@ -93,81 +92,6 @@ const ENCRYPT_TABLES: [[u16; 16]; 4] = [
         0x5451,
         0x7edb,
         0x0888,
-    ],
-];
-
-const DECRYPT_TABLES: [[u16; 16]; 4] = [
-    [
-        0x0444,
-        0xb7ed,
-        0x3321,
-        0x8088,
-        0x95cd,
-        0xa2a8,
-        0x84cc,
-        0x0000,
-        0xb3a9,
-        0x1545,
-        0x3765,
-        0xa6ec,
-        0x2220,
-        0x2664,
-        0x1101,
-        0x9189,
-    ],
-    [
-        0x1011,
-        0x4cc8,
-        0x7653,
-        0x2a8a,
-        0x6642,
-        0x5cd9,
-        0x5451,
-        0x3213,
-        0x7edb,
-        0x3a9b,
-        0x2202,
-        0x0000,
-        0x0888,
-        0x4440,
-        0x1899,
-        0x6eca,
-    ],
-    [
-        0x6537,
-        0xeca6,
-        0xcc84,
-        0x2022,
-        0x0000,
-        0x8991,
-        0xcd95,
-        0xa8a2,
-        0x2133,
-        0xedb7,
-        0x4515,
-        0x8880,
-        0x6426,
-        0x4404,
-        0xa9b3,
-        0x0111,
-    ],
-    [
-        0x9b3a,
-        0x0000,
-        0x8a2a,
-        0x5376,
-        0xd95c,
-        0x4266,
-        0x4044,
-        0x0222,
-        0xc84c,
-        0xca6e,
-        0x1332,
-        0x9918,
-        0x1110,
-        0x5154,
-        0xdb7e,
-        0x8808,
     ],
 ];
 
@@ -196,31 +120,18 @@ pub fn pack(a: u16, b: u16, c: u16, d: u16) -> u16
     ((a * 16 + b) * 16 + c) * 16 + d
 }
 
-// The S-boxes, and the word tables of a direction. They are taken once for a block and lent on, since each use of a
-// constant array copies it.
+// The S-boxes and the word tables. They are taken once for a block and lent on, since each use of a constant array
+// copies it.
 pub fn sbox_tables() -> [[u16; 16]; 4]
     ensures { λ r. ⌜ r ≡ sboxes ⌝ }
 {
     SBOXES
 }
 
-pub fn word_tables(d: Direction) -> [[u16; 16]; 4]
-    ensures { λ r. ⌜ r ≡ tables d ⌝ }
+pub fn word_tables() -> [[u16; 16]; 4]
+    ensures { λ r. ⌜ r ≡ tables ⌝ }
 {
-    match d {
-        Direction::Encrypt => ENCRYPT_TABLES,
-        Direction::Decrypt => DECRYPT_TABLES,
-    }
-}
-
-// Entry x of table s of four, s taken modulo 4.
-fn look_up(t: &[[u16; 16]; 4], s: usize, x: u16) -> u16
-    requires { ⌜ x < 16 ⌝ }
-    ensures { λ r. ⌜ r ≡ getD (getD (now (t .entry)) (s % 4) []) x 0 ⌝ }
-{
-    let i = s % 4;
-    let at = x as usize;
-    t[i][at]
+    WORD_TABLES
 }
 
 // Entry x of S-box s, s taken modulo 4.
@@ -229,7 +140,9 @@ fn sub(t: &[[u16; 16]; 4], s: usize, x: u16) -> u16
     ensures entry { λ r. ⌜ r ≡ sbox s x ⌝ }
     ensures small { λ r. ⌜ r < 16 ⌝ }
 {
-    look_up(t, s, x)
+    let i = s % 4;
+    let at = x as usize;
+    t[i][at]
 }
 
 // S0 of nibble i of a word.
@@ -388,25 +301,74 @@ pub fn phi(a: [u16; 4]) -> [u16; 4]
     ]
 }
 
-// New row i by words: the exclusive or over k of the entry, in table i + k + o, of the nibble in row k, column i.
-fn word_row(t: &[[u16; 16]; 4], o: usize, a: [u16; 4], i: usize) -> u16
-    requires { ⌜ (o < 3) × (i < 4) ⌝ }
-    ensures { λ r. ⌜ r ≡ xor4 (λ k. getD (getD (now (t .entry)) ((i + k + o) % 4) []) (cell a k i) 0) ⌝ }
+// The lookup of the word path: entry x of word table s, s taken modulo 4; for decryption the entry turned by 8 bits.
+fn look_up(t: &[[u16; 16]; 4], d: Direction, s: usize, x: u16) -> u16
+    requires { ⌜ (now t ≡ tables) × (x < 16) ⌝ }
+    ensures { λ r. ⌜ r ≡ entry d s x ⌝ }
 {
-    (look_up(t, i + 0 + o, nibble(a[0], i)) ^ look_up(t, i + 1 + o, nibble(a[1], i)))
-        ^ (look_up(t, i + 2 + o, nibble(a[2], i)) ^ look_up(t, i + 3 + o, nibble(a[3], i)))
+    let i = s % 4;
+    let at = x as usize;
+    let e = t[i][at];
+    match d {
+        Direction::Encrypt => e,
+        Direction::Decrypt => rotate(e, 8),
+    }
 }
 
-// One round by words, with the direction's tables lent.
+// New row i by words: the exclusive or over k of the lookup, in table i + k for encryption and i + k + 2 for decryption,
+// of the nibble in row k, column i. The direction is a literal in rows and rounds: handed down as a value it keeps the
+// compiler from inlining them.
+fn encrypt_row(t: &[[u16; 16]; 4], a: [u16; 4], i: usize) -> u16
+    requires { ⌜ (now t ≡ tables) × (i < 4) ⌝ }
+    ensures { λ r. ⌜ r ≡ wordRow Encrypt a i ⌝ }
+{
+    (look_up(t, Direction::Encrypt, i + 0 + 0, nibble(a[0], i))
+        ^ look_up(t, Direction::Encrypt, i + 1 + 0, nibble(a[1], i)))
+        ^ (look_up(t, Direction::Encrypt, i + 2 + 0, nibble(a[2], i))
+            ^ look_up(t, Direction::Encrypt, i + 3 + 0, nibble(a[3], i)))
+}
+
+fn decrypt_row(t: &[[u16; 16]; 4], a: [u16; 4], i: usize) -> u16
+    requires { ⌜ (now t ≡ tables) × (i < 4) ⌝ }
+    ensures { λ r. ⌜ r ≡ wordRow Decrypt a i ⌝ }
+{
+    (look_up(t, Direction::Decrypt, i + 0 + 2, nibble(a[0], i))
+        ^ look_up(t, Direction::Decrypt, i + 1 + 2, nibble(a[1], i)))
+        ^ (look_up(t, Direction::Decrypt, i + 2 + 2, nibble(a[2], i))
+            ^ look_up(t, Direction::Decrypt, i + 3 + 2, nibble(a[3], i)))
+}
+
+// One round by words of a direction, and of either, with the word tables lent.
+pub fn encrypt_round(t: &[[u16; 16]; 4], k: [u16; 4], a: [u16; 4]) -> [u16; 4]
+    requires { ⌜ now t ≡ tables ⌝ }
+    ensures { λ r. ⌜ r ≡ wordRound Encrypt k a ⌝ }
+{
+    [
+        encrypt_row(t, a, 0) ^ k[0],
+        encrypt_row(t, a, 1) ^ k[1],
+        encrypt_row(t, a, 2) ^ k[2],
+        encrypt_row(t, a, 3) ^ k[3],
+    ]
+}
+
+pub fn decrypt_round(t: &[[u16; 16]; 4], k: [u16; 4], a: [u16; 4]) -> [u16; 4]
+    requires { ⌜ now t ≡ tables ⌝ }
+    ensures { λ r. ⌜ r ≡ wordRound Decrypt k a ⌝ }
+{
+    [
+        decrypt_row(t, a, 0) ^ k[0],
+        decrypt_row(t, a, 1) ^ k[1],
+        decrypt_row(t, a, 2) ^ k[2],
+        decrypt_row(t, a, 3) ^ k[3],
+    ]
+}
+
 pub fn word_round(t: &[[u16; 16]; 4], d: Direction, k: [u16; 4], a: [u16; 4]) -> [u16; 4]
-    requires { ⌜ now t ≡ tables d ⌝ }
+    requires { ⌜ now t ≡ tables ⌝ }
     ensures { λ r. ⌜ r ≡ wordRound d k a ⌝ }
 {
-    let o = index_offset(d);
-    [
-        word_row(t, o, a, 0) ^ k[0],
-        word_row(t, o, a, 1) ^ k[1],
-        word_row(t, o, a, 2) ^ k[2],
-        word_row(t, o, a, 3) ^ k[3],
-    ]
+    match d {
+        Direction::Encrypt => encrypt_round(t, k, a),
+        Direction::Decrypt => decrypt_round(t, k, a),
+    }
 }

@@ -7,7 +7,7 @@ ghost use Prim.Native.Nat.{_<_};
 ghost use Rattle.rounds.specs.Array.{tables};
 
 fn one_round(t: &[[u16; 16]; 4], d: Direction, by_words: bool, k: [u16; 4], a: [u16; 4]) -> [u16; 4]
-    requires { ⌜ now t ≡ tables d ⌝ }
+    requires { ⌜ now t ≡ tables ⌝ }
 {
     if by_words {
         rounds::word_round(t, d, k, a)
@@ -21,7 +21,7 @@ fn array_after(p: u16, u: Register, r: usize, b: [u16; 4]) -> [u16; 4]
     requires { ⌜ (u .round ≡ 0) × (r < 13) ⌝ }
 {
     let s = rounds::sbox_tables();
-    let t = rounds::word_tables(Direction::Encrypt);
+    let t = rounds::word_tables();
     let mut v = u;
     let mut a = rounds::sigma(v.round_key(&s), b);
     let mut i: usize = 0;

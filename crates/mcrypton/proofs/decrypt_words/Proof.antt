@@ -13,22 +13,22 @@ use Rattle.mcrypton.proofs.decrypt_words.Statement.{statement}
 use Rattle.mcrypton.proofs.decrypt_words.Tie as tie
 
 abbrev Inv-loop : tie.InvT-loop
-Inv-loop s t v₀ a₀ r₀ v a r = (s ≡ sboxes) × (t ≡ tables Decrypt) × (r ≤ 12) × (r % 4 ≡ 0) × (v .round + r ≡ 12) × At Decrypt 0 backward (λ u. φ (roundKey u)) v₀ a₀ r v a
+Inv-loop s t v₀ a₀ r₀ v a r = (s ≡ sboxes) × (t ≡ tables) × (r ≤ 12) × (r % 4 ≡ 0) × (v .round + r ≡ 12) × At Decrypt 0 backward (λ u. φ (roundKey u)) v₀ a₀ r v a
 
 abbrev μ-loop : tie.MeasureT-loop
 μ-loop s t v₀ a₀ r₀ v a r = 12 - r
 
 -- the turn that a round is in
-abbrev turn1 : tie.After-word-round Inv-loop μ-loop → tie.In-loop Inv-loop μ-loop
+abbrev turn1 : tie.After-decrypt-round Inv-loop μ-loop → tie.In-loop Inv-loop μ-loop
 turn1 c = c .before .before .before .before .before .before
 
-abbrev turn2 : tie.After-word-round2 Inv-loop μ-loop → tie.In-loop Inv-loop μ-loop
+abbrev turn2 : tie.After-decrypt-round2 Inv-loop μ-loop → tie.In-loop Inv-loop μ-loop
 turn2 c = turn1 (c .before .before .before .before .before .before)
 
-abbrev turn3 : tie.After-word-round3 Inv-loop μ-loop → tie.In-loop Inv-loop μ-loop
+abbrev turn3 : tie.After-decrypt-round3 Inv-loop μ-loop → tie.In-loop Inv-loop μ-loop
 turn3 c = turn2 (c .before .before .before .before .before .before)
 
-abbrev turn4 : tie.After-word-round4 Inv-loop μ-loop → tie.In-loop Inv-loop μ-loop
+abbrev turn4 : tie.After-decrypt-round4 Inv-loop μ-loop → tie.In-loop Inv-loop μ-loop
 turn4 c = turn3 (c .before .before .before .before .before .before)
 
 room : (c : tie.In-loop Inv-loop μ-loop) → c .before .loop .r + 4 ≤ 12
@@ -63,10 +63,10 @@ loop-again c4 =
     let c2 = c3 .before .before .before .before .before .before in
     let c1 = c2 .before .before .before .before .before .before in
     let l = turn1 c1 .before .loop in
-    let h1 = word-more (l .r) (l .r + 1) (omega arith) (l .inv .5) (c1 .before .before .before .before .before .backward .ensures) (c1 .before .before .phi2 .ensures ∙ ap φ (c1 .before .before .before .round-key2 .ensures)) (c1 .word-round .ensures) in
-    let h2 = word-more (l .r + 1) (l .r + 2) (omega arith) h1 (c2 .before .before .before .before .before .backward2 .ensures) (c2 .before .before .phi3 .ensures ∙ ap φ (c2 .before .before .before .round-key3 .ensures)) (c2 .word-round2 .ensures) in
-    let h3 = word-more (l .r + 2) (l .r + 3) (omega arith) h2 (c3 .before .before .before .before .before .backward3 .ensures) (c3 .before .before .phi4 .ensures ∙ ap φ (c3 .before .before .before .round-key4 .ensures)) (c3 .word-round3 .ensures) in
-    let h4 = word-more (l .r + 3) (l .r + 4) (omega arith) h3 (c4 .before .before .before .before .before .backward4 .ensures) (c4 .before .before .phi5 .ensures ∙ ap φ (c4 .before .before .before .round-key5 .ensures)) (c4 .word-round4 .ensures) in
+    let h1 = word-more (l .r) (l .r + 1) (omega arith) (l .inv .5) (c1 .before .before .before .before .before .backward .ensures) (c1 .before .before .phi2 .ensures ∙ ap φ (c1 .before .before .before .round-key2 .ensures)) (c1 .decrypt-round .ensures) in
+    let h2 = word-more (l .r + 1) (l .r + 2) (omega arith) h1 (c2 .before .before .before .before .before .backward2 .ensures) (c2 .before .before .phi3 .ensures ∙ ap φ (c2 .before .before .before .round-key3 .ensures)) (c2 .decrypt-round2 .ensures) in
+    let h3 = word-more (l .r + 2) (l .r + 3) (omega arith) h2 (c3 .before .before .before .before .before .backward3 .ensures) (c3 .before .before .phi4 .ensures ∙ ap φ (c3 .before .before .before .round-key4 .ensures)) (c3 .decrypt-round3 .ensures) in
+    let h4 = word-more (l .r + 3) (l .r + 4) (omega arith) h3 (c4 .before .before .before .before .before .backward4 .ensures) (c4 .before .before .phi5 .ensures ∙ ap φ (c4 .before .before .before .round-key5 .ensures)) (c4 .decrypt-round4 .ensures) in
     (l .inv .0, l .inv .1, room (turn4 c4), omega (arith, l .inv .3), next4 (c4 .before .before .before .before .before), h4)
 
 returns : tie.Need-returns Inv-loop μ-loop

@@ -1,9 +1,0 @@
-use borrow.Author.Needs.{needs}
-use Rattle.rounds.proofs.word_row.Statement.{statement}
-use Rattle.rounds.proofs.word_row.Tie as tie
-
-returns : tie.Need-returns
-returns c = cc
-
-pub word-row-spec : {M : Type 1} → statement M
-word-row-spec = tie.close (tie.spec (λ c. search needs) (λ c. search needs) (λ c. search needs) (λ c κs. search needs) (λ c κs. search needs) (λ c. search needs) (λ c. search needs) (λ c. search needs) (λ c κs. search needs) (λ c κs. search needs) (λ c. search needs) (λ c. search needs) (λ c. search needs) (λ c κs. search needs) (λ c κs. search needs) (λ c. search needs) (λ c. search needs) (λ c. search needs) (λ c κs. search needs) (λ c κs. search needs) returns)
