@@ -1,12 +1,52 @@
-/* Block, CMAC, read, dated read and write by the library before and after a change,
- * by turns. bench/beside builds it: the functions before_... are the earlier
- * library's, and BEFORE is the answer that its reads and write give. */
+/* Two calls by turns, and what the second takes of the first's time. bench/beside
+ * builds it in two ways. With BEFORE: block, CMAC, read, dated read and write by the
+ * library before and after a change; the functions before_... are the earlier
+ * library's, and BEFORE is the answer that its reads and write give. Without: read,
+ * dated read and write by one library on sheets of editions 2 and 3, which differ in
+ * byte 3 and the key mark alone, so that the ratio is what the test of the mark
+ * costs. */
 #define _POSIX_C_SOURCE 199309L
 #include "captions.h"
 #include <stdio.h>
 #include <stdlib.h>
 #include <string.h>
 #include <time.h>
+
+enum { ROUNDS = 301, FULL = CAPTIONS_SHEET(256), DAY = 9000 };
+
+static uint8_t sealing[16], checking[16], text[65536], terms[CAPTIONS_TERMS(256)], out[192];
+static size_t slots, bytes;
+
+typedef captions_answer call(void);
+
+static captions_answer plain(int number, int value)
+{
+    captions_answer answer = {(uint8_t)number, (uint16_t)value};
+    return answer;
+}
+
+static captions_answer read_of(const uint8_t *sheet)
+{
+    captions_pointed answer = captions_read(sealing, 16, checking, 16, sheet, bytes, slots - 1, out, 192);
+    return plain(answer.number, answer.length);
+}
+static captions_answer dated_read_of(const uint8_t *sheet)
+{
+    captions_pointed answer = captions_dated_read(sealing, 16, checking, 16, sheet, bytes, terms, CAPTIONS_TERMS(slots),
+                                                  slots - 1, DAY, out, 192);
+    return plain(answer.number, answer.length);
+}
+static captions_answer write_of(uint8_t *sheet)
+{
+    captions_pointed answer = captions_write(sealing, 16, checking, 16, sheet, bytes, slots - 1, text, 192);
+    return plain(answer.number, answer.length);
+}
+
+#ifdef BEFORE
+
+static uint8_t sheet[FULL];
+static size_t key, length;
+static uint16_t path;
 
 captions_answer before_captions_encrypt_block(const uint8_t *, size_t, const uint8_t *, size_t, uint16_t, uint8_t *,
                                               size_t);
@@ -19,20 +59,6 @@ BEFORE before_captions_dated_read(const uint8_t *, size_t, const uint8_t *, size
                                   const uint8_t *, size_t, size_t, size_t, uint8_t *, size_t);
 BEFORE before_captions_write(const uint8_t *, size_t, const uint8_t *, size_t, uint8_t *, size_t, size_t,
                              const uint8_t *, size_t);
-
-enum { ROUNDS = 301, FULL = 53256, DAY = 9000 };
-
-static uint8_t sealing[16], checking[16], text[65536], sheet[FULL], terms[CAPTIONS_TERMS(256)], out[192];
-static size_t key, length, slots, bytes;
-static uint16_t path;
-
-typedef captions_answer call(void);
-
-static captions_answer plain(int number, int value)
-{
-    captions_answer answer = {(uint8_t)number, (uint16_t)value};
-    return answer;
-}
 
 static captions_answer encrypt_before(void)
 {
@@ -51,33 +77,33 @@ static captions_answer read_before(void)
     BEFORE answer = before_captions_read(sealing, 16, checking, 16, sheet, bytes, slots - 1, out, 192);
     return plain(answer.number, answer.length);
 }
-static captions_answer read_after(void)
-{
-    captions_pointed answer = captions_read(sealing, 16, checking, 16, sheet, bytes, slots - 1, out, 192);
-    return plain(answer.number, answer.length);
-}
+static captions_answer read_after(void) { return read_of(sheet); }
 static captions_answer dated_before(void)
 {
     BEFORE answer = before_captions_dated_read(sealing, 16, checking, 16, sheet, bytes, terms, CAPTIONS_TERMS(slots),
                                                slots - 1, DAY, out, 192);
     return plain(answer.number, answer.length);
 }
-static captions_answer dated_after(void)
-{
-    captions_pointed answer = captions_dated_read(sealing, 16, checking, 16, sheet, bytes, terms, CAPTIONS_TERMS(slots),
-                                                  slots - 1, DAY, out, 192);
-    return plain(answer.number, answer.length);
-}
+static captions_answer dated_after(void) { return dated_read_of(sheet); }
 static captions_answer write_before(void)
 {
     BEFORE answer = before_captions_write(sealing, 16, checking, 16, sheet, bytes, slots - 1, text, 192);
     return plain(answer.number, answer.length);
 }
-static captions_answer write_after(void)
-{
-    captions_pointed answer = captions_write(sealing, 16, checking, 16, sheet, bytes, slots - 1, text, 192);
-    return plain(answer.number, answer.length);
-}
+static captions_answer write_after(void) { return write_of(sheet); }
+
+#else
+
+static uint8_t second[FULL], third[FULL];
+
+static captions_answer read_second(void) { return read_of(second); }
+static captions_answer read_third(void) { return read_of(third); }
+static captions_answer dated_second(void) { return dated_read_of(second); }
+static captions_answer dated_third(void) { return dated_read_of(third); }
+static captions_answer write_second(void) { return write_of(second); }
+static captions_answer write_third(void) { return write_of(third); }
+
+#endif
 
 /* Both are accepted, with the same length and the same bytes in out. */
 static void agree(const char *name, call *before, call *after)
@@ -89,7 +115,7 @@ static void agree(const char *name, call *before, call *after)
     memset(out, 0, sizeof out);
     captions_answer a = after();
     if (b.number != 0 || a.number != 0 || b.length != a.length || memcmp(first, out, sizeof out) != 0) {
-        fprintf(stderr, "%s: refused, or the two libraries differ\n", name);
+        fprintf(stderr, "%s: refused, or the two differ\n", name);
         exit(1);
     }
 }
@@ -134,34 +160,41 @@ static void row(const char *name, call *before, call *after)
     printf("| %s | %.3f | %.3f | %.3f |\n", name, median(b) / 1000, median(a) / 1000, middle);
 }
 
-/* Of edition 1, laid out here: every library takes one, whatever its blanking makes. */
-static void full_sheet(size_t n)
+/* A blank sheet, laid out here with serial 0, and a term sheet for as many slots. */
+static void lay_out(uint8_t *sheet, size_t n, uint8_t edition)
 {
-    static const uint8_t header[8] = {0, 0, 8, 1};
     slots = n;
-    bytes = 8 + 208 * n;
-    memset(sheet, 0, sizeof sheet);
-    memcpy(sheet, header, sizeof header);
+    memset(sheet, 0, FULL);
     sheet[0] = (uint8_t)(n / 256);
     sheet[1] = (uint8_t)(n % 256);
-    terms[0] = sheet[0];
-    terms[1] = sheet[1];
+    sheet[2] = 8;
+    sheet[3] = edition;
+    memcpy(terms, sheet, 2);
     for (size_t i = 0; i < n; i++) {
         static const uint8_t term[4] = {DAY / 256, DAY % 256, DAY / 256, DAY % 256};
         memcpy(terms + CAPTIONS_TERMS(i), term, sizeof term);
-        captions_write(sealing, 16, checking, 16, sheet, bytes, i, text, 192);
     }
 }
 
-int main(void)
+static void fill(uint8_t *sheet)
+{
+    for (size_t i = 0; i < slots; i++)
+        captions_write(sealing, 16, checking, 16, sheet, bytes, i, text, 192);
+}
+
+#ifdef BEFORE
+
+/* Of edition 1: every library takes one, whatever its blanking makes. */
+static void full_sheet(size_t n)
+{
+    bytes = 8 + 208 * n;
+    lay_out(sheet, n, 1);
+    fill(sheet);
+}
+
+static void rows(void)
 {
     char name[64];
-    for (size_t i = 0; i < sizeof text; i++)
-        text[i] = (uint8_t)(53 * i + 7);
-    for (size_t i = 0; i < 16; i++) {
-        sealing[i] = (uint8_t)(29 * i + 13);
-        checking[i] = (uint8_t)(31 * i + 5);
-    }
     printf("| Call; slots of a sheet | Before, µs | After, µs | After / before |\n|---|---|---|---|\n");
     static const uint16_t paths[] = {0xffff, 0x0555};
     for (size_t p = 0; p < 2; p++)
@@ -188,5 +221,49 @@ int main(void)
         snprintf(name, sizeof name, "write, full sheet, %zu", n);
         row(name, write_before, write_after);
     }
+}
+
+#else
+
+/* Of editions 2 and 3, with the same serial, so that the captions are sealed alike. */
+static void full_sheets(size_t n)
+{
+    bytes = CAPTIONS_SHEET(n);
+    lay_out(second, n, 2);
+    captions_blank(third, bytes, n, 8, 0, sealing, 16, checking, 16);
+    fill(second);
+    fill(third);
+    if (memcmp(second + 16, third + 16, bytes - 16) != 0) {
+        fprintf(stderr, "the sheets differ in more than their headers\n");
+        exit(1);
+    }
+}
+
+static void rows(void)
+{
+    char name[64];
+    printf("| Call; slots of a sheet | Edition 2, µs | Edition 3, µs | 3 / 2 |\n|---|---|---|---|\n");
+    for (size_t n = 1; n <= 256; n *= 16) {
+        full_sheets(n);
+        snprintf(name, sizeof name, "read, full sheet, %zu", n);
+        row(name, read_second, read_third);
+        snprintf(name, sizeof name, "dated read, full sheet, %zu", n);
+        row(name, dated_second, dated_third);
+        snprintf(name, sizeof name, "write, full sheet, %zu", n);
+        row(name, write_second, write_third);
+    }
+}
+
+#endif
+
+int main(void)
+{
+    for (size_t i = 0; i < sizeof text; i++)
+        text[i] = (uint8_t)(53 * i + 7);
+    for (size_t i = 0; i < 16; i++) {
+        sealing[i] = (uint8_t)(29 * i + 13);
+        checking[i] = (uint8_t)(31 * i + 5);
+    }
+    rows();
     return 0;
 }

@@ -54,7 +54,7 @@ enum {
     CAPTIONS_RULE_SHORT = 1,       /* under 8 bytes */
     CAPTIONS_RULE_SLOTS = 2,       /* bytes 0 and 1: not 1 to 256 slots */
     CAPTIONS_RULE_KEY_WORDS = 3,   /* byte 2: not 4, 6 or 8 */
-    CAPTIONS_RULE_EDITION = 4,     /* byte 3: not 1 or 2 */
+    CAPTIONS_RULE_EDITION = 4,     /* byte 3: not 1, 2 or 3 */
     CAPTIONS_RULE_HEADER_BYTE = 5, /* edition 2: a byte from 10 to 15 that isn't
                                       zero */
     CAPTIONS_RULE_LENGTH = 6,      /* another length than so many slots have */
@@ -99,13 +99,14 @@ enum {
                                      isn't 192;
                                      blanking: slots isn't 1 to 256, or the
                                      sheet isn't CAPTIONS_SHEET(slots) bytes */
-    CAPTIONS_UNFIT_SHEET = 4,     /* shorter than 8 bytes, neither edition 1
-                                     nor 2, or any rule of its layout broken,
-                                     in any slot; a term sheet
+    CAPTIONS_UNFIT_SHEET = 4,     /* shorter than 8 bytes, of no edition from 1
+                                     to 3, or any rule of its layout broken, in
+                                     any slot; a term sheet
                                      with another slot count than the sheet's,
                                      not CAPTIONS_TERMS(slots) bytes, or with a
                                      day above CAPTIONS_LAST_DAY, in any slot */
-    CAPTIONS_OTHER_KEY_CLASS = 5, /* keys of another length than the sheet's */
+    CAPTIONS_OTHER_KEY_CLASS = 5, /* keys of another length than the sheet's;
+                                     blanking: than key_words has */
     CAPTIONS_NO_SUCH_SLOT = 6,    /* the slot isn't below the slot count */
     CAPTIONS_OVERLONG = 7,        /* a caption above 192 bytes */
     CAPTIONS_WORN = 8,            /* a write on a sheet whose last write number
@@ -118,7 +119,9 @@ enum {
                                      CAPTIONS_LAST_DAY */
     CAPTIONS_NOT_ON_SHOW = 12,    /* a dated read before the slot's opening day
                                      or after its closing day */
-    CAPTIONS_NO_SUCH_ROUND = 13   /* the bench: a round above CAPTIONS_ROUNDS */
+    CAPTIONS_NO_SUCH_ROUND = 13,  /* the bench: a round above CAPTIONS_ROUNDS */
+    CAPTIONS_OTHER_KEYS = 14      /* a sheet of edition 3: its key mark isn't
+                                     that of the two keys */
 };
 
 /* The word of each number, for a table of strings:
@@ -127,7 +130,8 @@ enum {
     {                                                                          \
         "accepted", "wrong key", "twin keys", "wrong span", "unfit sheet",     \
             "other key class", "no such slot", "overlong", "worn", "blank",    \
-            "altered", "no such date", "not on show", "no such round"          \
+            "altered", "no such date", "not on show", "no such round",         \
+            "other keys"                                                       \
     }
 
 #define CAPTIONS_BLOCK 8     /* bytes of a block, an array or their output */
@@ -143,8 +147,10 @@ enum {
 #define CAPTIONS_LAST_DAY 36524 /* 2099-12-31; day 0 is 2000-01-01 */
 
 /* The bytes of a sheet with that many slots, 1 to CAPTIONS_SLOTS. Blanking
- * makes sheets of edition 2. A sheet of edition 1, which has no serial, is
- * still read, written and cleared, and has the bytes of CAPTIONS_SHEET_1. */
+ * makes sheets of edition 3. Sheets of edition 2, which have no key mark, and
+ * of edition 1, which have no serial either, are still read, written and
+ * cleared. One of edition 2 has as many bytes, one of edition 1 those of
+ * CAPTIONS_SHEET_1. */
 #define CAPTIONS_SHEET(slots)                                                  \
     (CAPTIONS_HEADER + (CAPTIONS_MARK + CAPTIONS_FIELD) * (size_t)(slots))
 #define CAPTIONS_SHEET_1(slots)                                                \
@@ -186,36 +192,49 @@ captions_answer captions_cmac(const uint8_t *key, size_t key_len,
                               uint8_t *out, size_t out_len);
 
 /* Makes the bytes of sheet, CAPTIONS_SHEET(slots), a sheet of blank slots for
- * keys of key_words 16-bit words: 4, 6 or 8 for keys of 8, 12 or 16 bytes. What
- * the bytes were doesn't matter. Write numbers begin again at 1, so give every
- * sheet that a pair of keys serves a serial of its own, a sheet that is blanked
- * again a new one: sheets with unlike serials never seal from the same start.
- * Any serial is taken; with 0 a sheet seals as one of edition 1 does, so keys
- * that served a sheet of edition 1 have used 0.
- * Refusals: WRONG_KEY, WRONG_SPAN. */
+ * this pair of keys, which have key_words 16-bit words each: 4, 6 or 8 for keys
+ * of 8, 12 or 16 bytes. What the bytes were doesn't matter.
+ *
+ * That pair serves the sheet from then on. Bytes 10 to 15 are the key mark,
+ * made from both keys, slots, key_words and serial; a read or write under a
+ * pair with another mark is refused, OTHER_KEYS, before anything is opened. It
+ * has 48 bits: another pair can have the same one by chance.
+ *
+ * Write numbers begin again at 1, so give every sheet that a pair of keys
+ * serves a serial of its own, a sheet that is blanked again a new one: sheets
+ * with unlike serials never seal from the same start. Any serial is taken; with
+ * 0 a sheet seals as one of edition 1 does, so keys that served a sheet of
+ * edition 1 have used 0.
+ * Refusals: WRONG_KEY, TWIN_KEYS, WRONG_SPAN, OTHER_KEY_CLASS. */
 captions_answer captions_blank(uint8_t *sheet, size_t sheet_len,
                                size_t slots, size_t key_words,
-                               uint16_t serial);
+                               uint16_t serial,
+                               const uint8_t *sealing_key, size_t sealing_len,
+                               const uint8_t *checking_key,
+                               size_t checking_len);
 
 /* Writes a caption of 0 to 192 bytes into a slot, counted from 0, in place of
- * what the slot held. One pair of keys serves a sheet.
- * Refusals: WRONG_KEY, TWIN_KEYS, UNFIT_SHEET, OTHER_KEY_CLASS, NO_SUCH_SLOT,
- * OVERLONG, WORN. */
+ * what the slot held. One pair of keys serves a sheet: one of edition 3 refuses
+ * every pair with another mark. One of edition 1 or 2 has no key mark: there
+ * another pair of the right length writes, and which pair a slot was written
+ * with is for the caller to know.
+ * Refusals: WRONG_KEY, TWIN_KEYS, UNFIT_SHEET, OTHER_KEY_CLASS, OTHER_KEYS,
+ * NO_SUCH_SLOT, OVERLONG, WORN. */
 captions_pointed captions_write(const uint8_t *sealing_key, size_t sealing_len,
                                 const uint8_t *checking_key,
                                 size_t checking_len,
                                 uint8_t *sheet, size_t sheet_len, size_t slot,
                                 const uint8_t *caption, size_t caption_len);
 
-/* Makes a slot blank; a blank one stays blank.
- * Refusals: UNFIT_SHEET, NO_SUCH_SLOT. */
+/* Makes a slot blank; a blank one stays blank. It takes no keys, so anybody's
+ * clear is done. Refusals: UNFIT_SHEET, NO_SUCH_SLOT. */
 captions_answer captions_clear(uint8_t *sheet, size_t sheet_len, size_t slot);
 
 /* Reads a slot: the window of 192 bytes gets the caption, then zero bytes, and
  * the answer carries the caption's length. A refused read makes every byte of
  * the window zero.
  * Refusals: WRONG_KEY, TWIN_KEYS, WRONG_SPAN, UNFIT_SHEET, OTHER_KEY_CLASS,
- * NO_SUCH_SLOT, BLANK, ALTERED. */
+ * OTHER_KEYS, NO_SUCH_SLOT, BLANK, ALTERED. */
 captions_pointed captions_read(const uint8_t *sealing_key, size_t sealing_len,
                                const uint8_t *checking_key, size_t checking_len,
                                const uint8_t *sheet, size_t sheet_len,
@@ -230,8 +249,8 @@ captions_date captions_date_of_day(size_t day);
 /* Reads a slot as captions_read does if the slot is on show on that day by the
  * term sheet. A refused read makes every byte of the window zero.
  * Refusals: WRONG_KEY, TWIN_KEYS, WRONG_SPAN, UNFIT_SHEET (the sheet, then the
- * term sheet), OTHER_KEY_CLASS, NO_SUCH_DATE, NO_SUCH_SLOT, BLANK, NOT_ON_SHOW,
- * ALTERED. */
+ * term sheet), OTHER_KEY_CLASS, NO_SUCH_DATE, OTHER_KEYS, NO_SUCH_SLOT, BLANK,
+ * NOT_ON_SHOW, ALTERED. */
 captions_pointed captions_dated_read(
     const uint8_t *sealing_key, size_t sealing_len,
     const uint8_t *checking_key, size_t checking_len,

@@ -82,8 +82,9 @@ fn sheets<S: Style>(random: &mut Random) -> u64 {
     let mut compared = 0;
     for (edition, t) in kinds() {
         for n in [1, 2, 3, 16] {
-            let keys = Keys::own(random, edition, t);
-            let mut sheets = [edition.blank_sheet(n, t), edition.blank_sheet(n, t)];
+            let keys = Keys::unlike(random, t);
+            let blank = keys.blank_sheet(edition, n, t);
+            let mut sheets = [blank.clone(), blank];
             for _ in 0..150 {
                 let slot = random.below(n + 1);
                 let length = caption_length(random) + random.pick(&[0, 0, 0, 193]);

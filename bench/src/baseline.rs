@@ -7,10 +7,13 @@
 //! block at a time. `SameIdeas` has what the library's speed rests on besides:
 //! the rounds written out, four blocks in one walk of the register, and a
 //! written mark's last bytes compared as one number.
+//!
+//! A read, a dated read and a write test the key mark of edition 3 as the library
+//! does, so that what is compared does the same.
 
 use reference::{
-    Answer, ALTERED, BLANK, NOT_ON_SHOW, NO_SUCH_DATE, NO_SUCH_SLOT, OTHER_KEY_CLASS, OVERLONG,
-    TWIN_KEYS, UNFIT_SHEET, WORN, WRONG_KEY, WRONG_SPAN,
+    Answer, ALTERED, BLANK, NOT_ON_SHOW, NO_SUCH_DATE, NO_SUCH_SLOT, OTHER_KEYS, OTHER_KEY_CLASS,
+    OVERLONG, TWIN_KEYS, UNFIT_SHEET, WORN, WRONG_KEY, WRONG_SPAN,
 };
 use std::array::from_fn;
 
@@ -466,21 +469,18 @@ pub fn cmac<S: Style>(key: &[u8], message: &[u8], out: &mut [u8]) -> Answer {
 
 const FIELD: usize = 192;
 
-/// The sizes of a fit sheet, its last write number and its serial.
+/// The sizes of a fit sheet, its last write number, and what its edition adds.
 struct Header {
     n: usize,
     t: usize,
     w: u32,
-    /// The bytes before the marks.
-    bytes: usize,
-    /// 0 in edition 1.
-    serial: u16,
+    edition: Edition,
 }
 
 impl Header {
     /// Where a slot's mark starts.
     fn mark(&self, slot: usize) -> usize {
-        self.bytes + 16 * slot
+        self.edition.bytes + 16 * slot
     }
 
     /// Where a slot's field starts.
@@ -489,17 +489,39 @@ impl Header {
     }
 }
 
-/// The bytes of the header and the serial, by byte 3; none for an unknown edition
-/// and where the six bytes after a serial aren't zero.
-fn edition(sheet: &[u8]) -> Option<(usize, u16)> {
-    match sheet.get(3)? {
-        1 => Some((8, 0)),
-        2 => {
-            let rest = load(sheet.get(8..16)?);
-            (rest << 16 == 0).then_some((16, (rest >> 48) as u16))
-        }
-        _ => None,
+/// What byte 3 settles.
+struct Edition {
+    /// The bytes before the marks.
+    bytes: usize,
+    /// 0 in edition 1.
+    serial: u16,
+    /// The six bytes as a number; edition 3 alone has one.
+    key_mark: Option<u64>,
+}
+
+/// None for an unknown edition, and where the six bytes after edition 2's serial
+/// aren't zero.
+fn edition(sheet: &[u8]) -> Option<Edition> {
+    let number = *sheet.get(3)?;
+    if number == 1 {
+        return Some(Edition {
+            bytes: 8,
+            serial: 0,
+            key_mark: None,
+        });
     }
+    let rest = load(sheet.get(8..16)?);
+    let (serial, last_six) = ((rest >> 48) as u16, rest << 16 >> 16);
+    let key_mark = match number {
+        2 if last_six == 0 => None,
+        3 => Some(last_six),
+        _ => return None,
+    };
+    Some(Edition {
+        bytes: 16,
+        serial,
+        key_mark,
+    })
 }
 
 /// The bytes are gathered and tested once: a scan that stops early is slower.
@@ -513,22 +535,17 @@ fn fit_header<S: Style>(sheet: &[u8]) -> Option<Header> {
     let n = usize::from(u16::from_be_bytes([head[0], head[1]]));
     let t = usize::from(head[2]);
     let w = u32::from_be_bytes([head[4], head[5], head[6], head[7]]);
-    let (bytes, serial) = edition(sheet)?;
-    let sized = (1..=256).contains(&n) && matches!(t, 4 | 6 | 8) && sheet.len() == bytes + 208 * n;
+    let edition = edition(sheet)?;
+    let length = edition.bytes + 208 * n;
+    let sized = (1..=256).contains(&n) && matches!(t, 4 | 6 | 8) && sheet.len() == length;
     if !sized {
         return None;
     }
-    let (marks, fields) = sheet[bytes..].split_at(16 * n);
+    let (marks, fields) = sheet[edition.bytes..].split_at(16 * n);
     let mut slots = marks.chunks_exact(16).zip(fields.chunks_exact(FIELD));
     slots
         .all(|(mark, field)| slot_fits::<S>(w, mark, field))
-        .then_some(Header {
-            n,
-            t,
-            w,
-            bytes,
-            serial,
-        })
+        .then_some(Header { n, t, w, edition })
 }
 
 /// A write number of 0 leaves only a blank slot, any other only a written one.
@@ -595,8 +612,9 @@ pub fn write<S: Style>(
     let Some(header) = fit_header::<S>(sheet) else {
         return Answer::refused(UNFIT_SHEET);
     };
-    if sealing_key.len() != 2 * header.t {
-        return Answer::refused(OTHER_KEY_CLASS);
+    let keys = (sealing_key, checking_key);
+    if let Err(number) = class_fits(keys, &header).and_then(|()| mark_fits::<S>(keys, &header)) {
+        return Answer::refused(number);
     }
     if slot >= header.n {
         return Answer::refused(NO_SUCH_SLOT);
@@ -614,11 +632,11 @@ pub fn write<S: Style>(
     let mut plain = [0; FIELD];
     plain[..caption.len()].copy_from_slice(caption);
     let length = caption.len() as u16;
-    let (keys, place) = ((sealing_key, checking_key), (write_number, slot, length));
+    let place = (write_number, slot, length);
     by_key_length!(
         S,
         sealing_key.len(),
-        put_slot(keys, place, header.serial, &plain, mark, field),
+        put_slot(keys, place, header.edition.serial, &plain, mark, field),
         ()
     );
     Answer::accepted(0)
@@ -656,6 +674,7 @@ pub fn read<S: Style>(
     let keys = (sealing_key, checking_key);
     let tested = read_header::<S>(keys, sheet, window).and_then(|header| {
         class_fits(keys, &header)?;
+        mark_fits::<S>(keys, &header)?;
         written_slot(sheet, &header, slot)
     });
     match tested {
@@ -690,6 +709,28 @@ fn class_fits(keys: KeyPair, header: &Header) -> Result<(), u8> {
     Ok(())
 }
 
+/// Test 14.
+#[inline(always)]
+fn mark_fits<S: Style>(keys: KeyPair, header: &Header) -> Result<(), u8> {
+    let Some(mark) = header.edition.key_mark else {
+        return Ok(());
+    };
+    let own = by_key_length!(S, keys.0.len(), own_mark(keys, header), !mark);
+    if own != mark {
+        return Err(OTHER_KEYS);
+    }
+    Ok(())
+}
+
+/// The key mark of a pair: of n, t, edition 3, serial and two zero bytes, sealed,
+/// the first six bytes of the CMAC.
+fn own_mark<S: Style, R: Register>((sealing_key, checking_key): KeyPair, header: &Header) -> u64 {
+    let (n, t) = (header.n as u64, header.t as u64);
+    let block = n << 48 | t << 40 | 3 << 32 | u64::from(header.edition.serial) << 16;
+    let sealed = S::encrypt(R::of_key(sealing_key), block).to_be_bytes();
+    cmac_from::<S, R>(R::of_key(checking_key), 0, &sealed) >> 16
+}
+
 /// Tests 6 and 9.
 #[inline(always)]
 fn written_slot<'a>(sheet: &'a [u8], header: &Header, slot: usize) -> Result<Slot<'a>, u8> {
@@ -701,7 +742,7 @@ fn written_slot<'a>(sheet: &'a [u8], header: &Header, slot: usize) -> Result<Slo
         return Err(BLANK);
     }
     let field = &sheet[header.field(slot)..][..FIELD];
-    Ok((mark, field, header.serial))
+    Ok((mark, field, header.edition.serial))
 }
 
 fn shown_slot<S: Style>(keys: KeyPair, slot: usize, written: Slot, window: &mut [u8]) -> Answer {
@@ -775,6 +816,7 @@ pub fn dated_read<S: Style>(
         if day > usize::from(LAST_DAY) {
             return Err(NO_SUCH_DATE);
         }
+        mark_fits::<S>(keys, &header)?;
         let written = written_slot(sheet, &header, slot)?;
         if !on_show(days, header.n, slot, day) {
             return Err(NOT_ON_SHOW);

@@ -1,6 +1,6 @@
 //! What each command does.
 
-use crate::blank_sheet::blank_sheet;
+use crate::blank_sheet::{blank_sheet, key_bytes};
 use crate::caption::{self, Source};
 use crate::date;
 use crate::exchange::{self, Import};
@@ -34,6 +34,12 @@ pub fn run(words: &[OsString]) -> Result<(), Failure> {
                     hint("a date is YYYY-MM-DD, from 2000-01-01 to 2099-12-31");
                     failure
                 }
+                Failure::Refused(Refusal::OtherKeys) => {
+                    hint(
+                        "the sheet was blanked with other keys, or its serial or mark was changed",
+                    );
+                    failure
+                }
                 other => other,
             })
         }
@@ -63,8 +69,10 @@ fn run_command(name: &str, words: &Words) -> Result<(), Failure> {
 
 fn blank(file: &Path, slots: &OsStr, bits: &OsStr, words: &Words) -> Result<(), Failure> {
     let (slots, bits) = (number("SLOTS", slots)?, number("BITS", bits)?);
-    let sheet = blank_sheet(slots, bits, serial(words.operand(3))?)?;
-    sheet_file::create(file, wait(words)?, &sheet, words.has("--force"))
+    let (serial, wait) = (serial(words.operand(3))?, wait(words)?);
+    let keys = Keys::of_file(Path::new(words.operand(4)))?;
+    let sheet = blank_sheet(slots, bits, serial, &keys)?;
+    sheet_file::create(file, wait, &sheet, words.has("--force"))
 }
 
 fn write(file: &Path, slot: &OsStr, keys: &Path, words: &Words) -> Result<(), Failure> {
@@ -154,10 +162,7 @@ fn import(file: &Path, keys: &Path, words: &Words) -> Result<(), Failure> {
 }
 
 fn keys(file: &Path, bits: &OsStr, words: &Words) -> Result<(), Failure> {
-    let bits = number("BITS", bits)?;
-    // The library says which keys there are.
-    blank_sheet(1, bits, 0)?;
-    let keys = Keys::random(bits / 8)?;
+    let keys = Keys::random(key_bytes(number("BITS", bits)?)?)?;
     sheet_file::create_private(file, wait(words)?, keys.text().as_bytes())
 }
 

@@ -6,7 +6,7 @@ use std::fmt::Display;
 use std::io;
 use std::path::Path;
 
-/// Exit statuses beside those of the refusals, which are 1 to 13 and may come
+/// Exit statuses beside those of the refusals, which are 1 to 14 and may come
 /// to 16. Most are the numbers that sysexits.h gives to a wrong command line,
 /// wrong data, missing input, failed input or output and "try again later".
 const WRONG_USAGE: u8 = 64;

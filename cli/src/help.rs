@@ -35,14 +35,19 @@ const WAIT: (&str, &str) = (
 pub const PAGES: [Page; 14] = [
     Page {
         name: "blank",
-        operands: &["FILE", "SLOTS", "BITS", "SERIAL"],
+        operands: &["FILE", "SLOTS", "BITS", "SERIAL", "KEYS"],
         options: &[("--force", "blank a FILE that exists"), WAIT],
         instead: None,
-        usage: "FILE SLOTS BITS SERIAL [--force] [--wait SECONDS]",
+        usage: "FILE SLOTS BITS SERIAL KEYS [--force]\n[--wait SECONDS]",
         summary: "make a sheet of blank slots",
         about: "\
-Makes FILE a sheet of SLOTS blank slots, 1 to 256, for keys of BITS bits: 64,
-96 or 128.
+Makes FILE a sheet of SLOTS blank slots, 1 to 256, for the pair in KEYS, keys of
+BITS bits: 64, 96 or 128.
+
+One pair of keys serves a sheet, the pair that it was blanked with. The sheet
+keeps a mark of that pair, six bytes: with keys of another mark nothing is read
+or written (exit status 14). Other keys can have the same mark by chance. The
+mark doesn't say which pair it was: note that elsewhere.
 
 Write numbers begin at 1 on every new sheet. SERIAL, 0 to 65535, keeps sheets
 apart that the same keys serve: captions of sheets with unlike serials are never
@@ -56,7 +61,7 @@ as sheets without a serial do: keys that served one of those have used 0.
 A FILE that exists is left alone (exit status 74) unless --force is given: all
 its captions would be lost.
 ",
-        statuses: &[1, 3, 75, 79],
+        statuses: &[1, 2, 3, 5, 65, 75, 79],
     },
     Page {
         name: "write",
@@ -81,8 +86,12 @@ Ctrl-D pressed twice ends it; Enter before that is a line feed, which is kept.
 A caption of no bytes is written only where --empty is given. Input that is
 empty is taken for input that was lost, and nothing is written (exit status
 66): from a command before the pipe that failed, say, or an unset variable.
+
+One pair of keys serves a sheet: with other keys than those that it was blanked
+with nothing is written (exit status 14). A sheet of edition 1 or 2, which has
+no mark of its keys, takes any keys of the right length.
 ",
-        statuses: &[1, 2, 4, 5, 6, 7, 8, 65, 66, 75, 79],
+        statuses: &[1, 2, 4, 5, 6, 7, 8, 14, 65, 66, 75, 79],
     },
     Page {
         name: "read",
@@ -98,12 +107,17 @@ empty is taken for input that was lost, and nothing is written (exit status
 Prints the caption of a slot: its bytes as they were written, with no line feed
 added. A refusal prints nothing on standard output.
 
+One pair of keys serves a sheet: with other keys than those that it was blanked
+with nothing is opened (exit status 14). A sheet of edition 1 or 2 has no mark
+of its keys: there other keys show as an altered slot, if at all (exit status
+10).
+
 With --terms and --on, which go together, the caption is printed only if the
 slot is on show on DATE by the term sheet TERMS, which has as many slots as
 FILE: from the slot's opening to its closing day, both included. On any other
 day it is refused (exit status 12). Without them no term is looked at.
 ",
-        statuses: &[1, 2, 4, 5, 6, 9, 10, 11, 12, 65],
+        statuses: &[1, 2, 4, 5, 6, 9, 10, 11, 12, 14, 65],
     },
     Page {
         name: "clear",
@@ -153,7 +167,8 @@ byte behind the caption. The last line counts them:
     slots 3 sound 1 blank 1 altered 1
 
 The exit status is 0 if no slot is altered, else 10. Keys or a sheet that can't
-be used at all are refused as by captions read, with no lines. An old sheet that
+be used at all are refused as by captions read, with no lines: so are other keys
+than those that the sheet was blanked with (exit status 14). An old sheet that
 was put back in the place of a newer one verifies as sound: compare the last
 write number with one that you noted elsewhere.
 
@@ -163,7 +178,7 @@ altered and list; list has an object for each slot, with the members slot, state
 length of a slot that isn't sound are null; reason is what differs in an altered
 slot, else null.
 ",
-        statuses: &[1, 2, 4, 5, 10, 65],
+        statuses: &[1, 2, 4, 5, 10, 14, 65],
     },
     Page {
         name: "export",
@@ -185,7 +200,7 @@ and \\x with two hex digits a byte, for control characters and what isn't UTF-8.
 \\& is nothing: it stands first where a spreadsheet could take the text for a
 number, a date, a formula or a quotation, and alone for a caption of no bytes.
 ",
-        statuses: &[1, 2, 4, 5, 10, 65],
+        statuses: &[1, 2, 4, 5, 10, 14, 65],
     },
     Page {
         name: "import",
@@ -221,7 +236,7 @@ or \"clear\", old text and new text. The last line counts:
 
     writes 2 clears 0 unchanged 6
 ",
-        statuses: &[1, 2, 4, 5, 6, 7, 8, 10, 65, 66, 75, 79],
+        statuses: &[1, 2, 4, 5, 6, 7, 8, 10, 14, 65, 66, 75, 79],
     },
     Page {
         name: "keys",
@@ -327,7 +342,7 @@ Prints what a command does, or without COMMAND what there is. A command's own
 ];
 
 /// The exit statuses and their meanings. A refusal's begins with its word.
-const STATUSES: [(u8, &str); 20] = [
+const STATUSES: [(u8, &str); 21] = [
     (0, "done"),
     (
         1,
@@ -341,7 +356,7 @@ const STATUSES: [(u8, &str); 20] = [
     ),
     (
         5,
-        "other key class: the sheet was blanked for keys of another length",
+        "other key class: the sheet was blanked for keys of another length; to\nblank one, the keys in KEYS aren't of BITS bits",
     ),
     (6, "no such slot: SLOT is the number of slots or more"),
     (7, "overlong: the caption has more than 192 bytes"),
@@ -360,6 +375,10 @@ const STATUSES: [(u8, &str); 20] = [
         "not on show: DATE is before the slot's opening or after its closing day",
     ),
     (13, "no such round: ROUND is above 12"),
+    (
+        14,
+        "other keys: the sheet was blanked with other keys than those in KEYS, or\nits serial or mark was changed",
+    ),
     (64, "the command line is wrong"),
     (65, "KEYS, KEYFILE or the table isn't in its form"),
     (66, "the input is empty: no caption, or no table"),
@@ -424,9 +443,12 @@ const OPERANDS: [(&str, &str); 11] = [
 const NOTES: &str = "
 Keys:
 Two keys of 8, 12 or 16 bytes, of one length and not equal. One pair of keys
-serves a sheet: nothing stops a write under another pair, and its slot is then
-altered to whoever reads with the first. A warning is given where the file of
-keys can be read or written by every user.
+serves a sheet, the pair that it was blanked with. The sheet keeps a mark of it,
+and other keys are refused before anything is opened or written (exit status
+14); only captions clear takes no keys. A sheet of edition 1 or 2, as captions
+made them before 0.5.0, has no mark: nothing stops a write under another pair
+there, and its slot is then as a rule altered to whoever reads with the first. A
+warning is given where the file of keys can be read or written by every user.
 
 Terms:
 A lender allows a caption only while the loan is on show. A term sheet, a file
@@ -455,9 +477,10 @@ is then the other's, whole, and a write number may be used for both.
 What a sheet can't tell:
 An old sheet put back in the place of a newer one is a sound sheet: it lists,
 reads and verifies as it did. Note the last write number elsewhere if that
-matters. Neither does a sheet tell that a slot was cleared by somebody else, or
-that its serial was changed: then a caption of eight bytes or more reads with
-other bytes in its first eight places.
+matters. Neither does a sheet tell that a slot was cleared by somebody else. One
+of edition 2 doesn't tell that its serial was changed: then a caption of eight
+bytes or more reads with other bytes in its first eight places. On one of
+edition 3 the mark covers the serial.
 
 Messages:
 Standard error has a line for every exit status but 0; a refusal's last line is

@@ -2,7 +2,8 @@
 //! be shown. Its bytes are numbers of two bytes each: the slot count, the opening
 //! days of all slots, then the closing days.
 
-use crate::blank_sheet::blank_sheet;
+use crate::blank_sheet::{any_keys, blank_sheet};
+use crate::keys::Keys;
 use crate::listing::with_list;
 use captions::{date_of_day, Date, Fault, Refusal, FIELD, LAST_DAY};
 
@@ -33,7 +34,7 @@ impl Term {
 /// A term sheet in which no slot is ever on show.
 pub fn blank(slots: usize) -> Result<Vec<u8>, Refusal> {
     // The library says how many slots there can be.
-    blank_sheet(slots, 64, 0)?;
+    blank_sheet(slots, 64, 0, &any_keys())?;
     let mut numbers = vec![u16::try_from(slots).unwrap_or_default()];
     numbers.extend(vec![Term::NEVER.opening; slots]);
     numbers.extend(vec![Term::NEVER.closing; slots]);
@@ -101,9 +102,11 @@ fn numbers(sheet: &[u8]) -> impl Iterator<Item = u16> + Clone + '_ {
 /// so: a dated read of a blank sheet with as many slots comes as far as "blank".
 fn slots_with(sheet: &[u8], slot: usize) -> Result<usize, Refusal> {
     let slots = numbers(sheet).next().map_or(0, usize::from);
-    let blank = blank_sheet(slots, 64, 0).map_err(|_| Refusal::UnfitSheet(Fault::Terms))?;
-    let (sealing, checking, mut window) = ([0; 8], [1; 8], [0; FIELD]);
-    match captions::dated_read(&sealing, &checking, &blank, sheet, slot, 0, &mut window) {
+    let (keys, mut window) = (any_keys(), [0; FIELD]);
+    let blank = blank_sheet(slots, 64, 0, &keys);
+    let blank = blank.map_err(|_| Refusal::UnfitSheet(Fault::Terms))?;
+    let Keys { sealing, checking } = &keys;
+    match captions::dated_read(sealing, checking, &blank, sheet, slot, 0, &mut window) {
         Ok(_) | Err(Refusal::Blank) => Ok(slots),
         Err(refusal) => Err(refusal),
     }

@@ -20,7 +20,8 @@ FIELD = 192
 SIZE_MAX = 2**64 - 1
 HEX = rb"((?:[0-9a-fA-F]{2})*)"
 WORDS = ("accepted", "wrong key", "twin keys", "wrong span", "unfit sheet", "other key class",
-         "no such slot", "overlong", "worn", "blank", "altered", "no such date", "not on show")
+         "no such slot", "overlong", "worn", "blank", "altered", "no such date", "not on show",
+         "no such round", "other keys")
 
 
 class Pointed(ctypes.Structure):

@@ -109,10 +109,10 @@ fn header_rules(sheet: &[u8]) -> Result<Slots, Fault> {
     Ok(Slots { n, edition, w })
 }
 
-/// The header's zero bytes; edition 1 has none.
+/// The header's zero bytes; editions 1 and 3 have none.
 fn zero_bytes(edition: Edition) -> Range<usize> {
     match edition {
-        Edition::One => 0..0,
+        Edition::One | Edition::Three => 0..0,
         Edition::Two => 10..16,
     }
 }

@@ -1,7 +1,7 @@
 //! Second program for mCrypton caption sheets.
 //!
 //! It is written from documents 01 (the scope) and 02 (the change requests, of
-//! them requests 1 to 5), document 000 (the mCrypton paper) and the NIST
+//! them requests 1 to 7), document 000 (the mCrypton paper) and the NIST
 //! standards SP 800-38A (CBC) and SP 800-38B (CMAC) alone, to be read beside
 //! them and compared with, not to be fast.
 //!
@@ -15,6 +15,7 @@ pub mod book;
 pub mod calendar;
 pub mod cipher;
 pub mod faults;
+pub mod keys;
 pub mod listing;
 pub mod modes;
 pub mod sheet;
@@ -26,6 +27,7 @@ pub use book::Book;
 pub use calendar::{date_of_day, day_of_date, DateAnswer, DayAnswer};
 pub use cipher::{decrypt_block, encrypt_block};
 pub use faults::{first_fault, Fault};
+pub use keys::{key_mark, key_refusal};
 pub use listing::listing;
 pub use modes::cmac;
 pub use sheet::{blank, clear, fit, read, store_field, write};
@@ -133,7 +135,7 @@ impl From<u8> for Refusal {
 
 /// A key isn't 8, 12 or 16 bytes, or the two lengths differ; blanking: t isn't 4, 6 or 8.
 pub const WRONG_KEY: u8 = 1;
-/// Sealing and checking key are equal.
+/// Sealing and checking key are equal (read, write, blanking).
 pub const TWIN_KEYS: u8 = 2;
 /// A block, wanted array, output, window or buffer has the wrong length;
 /// blanking: n isn't 1 to 256.
@@ -159,6 +161,8 @@ pub const NO_SUCH_DATE: u8 = 11;
 pub const NOT_ON_SHOW: u8 = 12;
 /// The bench: the round is above 12.
 pub const NO_SUCH_ROUND: u8 = 13;
+/// The key mark of an edition 3 sheet isn't that of the keys.
+pub const OTHER_KEYS: u8 = 14;
 
 /// Accepted, or a refusal that points to no rule.
 pub const RULE_NONE: u8 = 0;

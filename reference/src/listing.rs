@@ -2,7 +2,7 @@
 
 use crate::sheet::{fit_header, mark_of, Edition, Header, MOST_SLOTS};
 
-/// The most bytes a sheet has: 256 slots of edition 2, 53264 bytes.
+/// The most bytes a sheet has: 256 slots of edition 2 or 3, 53264 bytes.
 pub const MOST_BYTES: usize = Edition::BLANKED.sheet_length(MOST_SLOTS);
 
 /// The listing text of a sheet; an unfit one, or one above 53264 bytes, gives

@@ -8,7 +8,7 @@ use std::io::{stdin, stdout, Read, Result, Write};
 use std::process::ExitCode;
 
 const USAGE: &str = "\
-usage: reference vectors blocks|keys|bench|cmac|steps|cbc|sheet|faults
+usage: reference vectors blocks|keys|bench|cmac|steps|cbc|marks|sheet|faults
        reference rounds KEY BLOCK
        reference dates
        reference list < sheet
@@ -47,6 +47,7 @@ fn run(words: &[&str]) -> Option<Result<()>> {
         ["vectors", "cmac"] => vectors::cmacs(),
         ["vectors", "steps"] => vectors::steps(),
         ["vectors", "cbc"] => vectors::cbc(),
+        ["vectors", "marks"] => vectors::marks(),
         ["vectors", "sheet"] => vectors::sheet(),
         ["vectors", "faults"] => vectors::faults(),
         ["rounds", key, block] => vectors::rounds(key, block)?,

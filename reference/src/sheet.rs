@@ -1,13 +1,14 @@
 //! The sheet: layout, blanking, writing, clearing, reading (document 01, "The
 //! sheet" and "What the kiosk shows instead of a caption"; document 02, requests
-//! 3 and 5).
+//! 3, 5 and 7).
 
 use crate::cipher::{decrypt, encrypt, Block, Register};
 use crate::faults::{first_fault, Fault};
+use crate::keys::{KeyMark, Pair};
 use crate::modes::{cbc_decrypt, cbc_encrypt, cmac_with};
 use crate::{
-    refuse_if, Answer, Pointed, Refusal, BLANK, NO_SUCH_SLOT, OTHER_KEY_CLASS, OVERLONG, TWIN_KEYS,
-    UNFIT_SHEET, WORN, WRONG_KEY, WRONG_SPAN,
+    refuse_if, Answer, Pointed, Refusal, BLANK, NO_SUCH_SLOT, OVERLONG, UNFIT_SHEET, WORN,
+    WRONG_KEY, WRONG_SPAN,
 };
 use std::array::from_fn;
 use std::ops::Range;
@@ -24,17 +25,19 @@ pub const MOST_SLOTS: usize = 256;
 pub(crate) enum Edition {
     One,
     Two,
+    Three,
 }
 
 impl Edition {
     /// The edition that blanking makes.
-    pub(crate) const BLANKED: Edition = Edition::Two;
+    pub(crate) const BLANKED: Edition = Edition::Three;
 
     /// The edition of byte 3; none if there is no such edition.
     pub(crate) fn of_number(number: u8) -> Option<Edition> {
         match number {
             1 => Some(Edition::One),
             2 => Some(Edition::Two),
+            3 => Some(Edition::Three),
             _ => None,
         }
     }
@@ -44,6 +47,7 @@ impl Edition {
         match self {
             Edition::One => 1,
             Edition::Two => 2,
+            Edition::Three => 3,
         }
     }
 
@@ -51,7 +55,7 @@ impl Edition {
     const fn header(self) -> usize {
         match self {
             Edition::One => 8,
-            Edition::Two => 16,
+            Edition::Two | Edition::Three => 16,
         }
     }
 
@@ -89,9 +93,10 @@ pub(crate) struct Header {
     edition: Edition,
     pub(crate) w: u32,
     /// Edition 1 has none, and two zero bytes in its place in the start block.
-    serial: [u8; 2],
-    /// The six bytes after the serial; edition 1 has none.
-    zeros: [u8; 6],
+    pub(crate) serial: [u8; 2],
+    /// The six bytes after the serial: edition 2's zeros, edition 3's key mark.
+    /// Edition 1 has none.
+    last_six: [u8; 6],
 }
 
 impl Header {
@@ -99,9 +104,9 @@ impl Header {
     fn of_sheet(sheet: &[u8]) -> Option<Header> {
         let edition = Edition::of_number(*sheet.get(3)?)?;
         let header = sheet.get(..edition.header())?;
-        let (serial, zeros) = match edition {
+        let (serial, last_six) = match edition {
             Edition::One => ([0; 2], [0; 6]),
-            Edition::Two => ([header[8], header[9]], from_fn(|i| header[10 + i])),
+            Edition::Two | Edition::Three => ([header[8], header[9]], from_fn(|i| header[10 + i])),
         };
         Some(Header {
             n: number(&header[0..2]) as usize,
@@ -109,8 +114,21 @@ impl Header {
             edition,
             w: number(&header[4..8]),
             serial,
-            zeros,
+            last_six,
         })
+    }
+
+    /// The key mark; only edition 3 has one.
+    pub(crate) fn key_mark(&self) -> Option<KeyMark> {
+        match self.edition {
+            Edition::One | Edition::Two => None,
+            Edition::Three => Some(self.last_six),
+        }
+    }
+
+    /// Any six bytes are fit for a key mark; edition 2's are zero.
+    fn last_six_fit(&self) -> bool {
+        self.key_mark().is_some() || all_zero(&self.last_six)
     }
 
     fn sheet_length(&self) -> usize {
@@ -157,12 +175,12 @@ impl Mark {
 // ---- The layout ----
 
 /// Whether t is 4, 6 or 8.
-fn is_key_class(t: usize) -> bool {
+pub(crate) fn is_key_class(t: usize) -> bool {
     t == 4 || t == 6 || t == 8
 }
 
 /// Whether n is 1 to 256.
-fn is_slot_count(n: usize) -> bool {
+pub(crate) fn is_slot_count(n: usize) -> bool {
     (1..=MOST_SLOTS).contains(&n)
 }
 
@@ -176,7 +194,7 @@ pub(crate) fn fit_header(sheet: &[u8]) -> Option<Header> {
     let header = Header::of_sheet(sheet)?;
     let fits = is_slot_count(header.n)
         && is_key_class(header.t)
-        && all_zero(&header.zeros)
+        && header.last_six_fit()
         && sheet.len() == header.sheet_length()
         && (0..header.n).all(|slot| slot_fits(sheet, &header, slot));
     fits.then_some(header)
@@ -250,19 +268,7 @@ fn check(key: Register, write_number: u32, slot: usize, length: u16, field: &[u8
     cmac_with(&|block| encrypt(key, block), &message)
 }
 
-// ---- Tests that calls share ----
-
-/// Tests 1 and 2: the sealing and the checking key.
-pub(crate) fn key_pair(
-    sealing_key: &[u8],
-    checking_key: &[u8],
-) -> Result<(Register, Register), u8> {
-    let sealing = Register::of_key(sealing_key).ok_or(WRONG_KEY)?;
-    let checking = Register::of_key(checking_key).ok_or(WRONG_KEY)?;
-    refuse_if(sealing_key.len() != checking_key.len(), WRONG_KEY)?;
-    refuse_if(sealing_key == checking_key, TWIN_KEYS)?;
-    Ok((sealing, checking))
-}
+// ---- A test that calls share ----
 
 /// Test 4 of a read and a write, which points to the sheet's first fault.
 pub(crate) fn tested_header(sheet: &[u8]) -> Result<Header, Refusal> {
@@ -271,26 +277,44 @@ pub(crate) fn tested_header(sheet: &[u8]) -> Result<Header, Refusal> {
 
 // ---- Blanking ----
 
-/// Blanking: stores n, t, edition 2, w = 0, the serial and zeros. Refusals 1
-/// and 3.
-pub fn blank(sheet: &mut [u8], n: usize, t: usize, serial: u16) -> Answer {
-    match blanking_tests(sheet, n, t) {
-        Ok(()) => {
+/// Blanking: stores n, t, edition 3, w = 0, the serial, the pair's key mark and
+/// zeros. Refusals 1, 2, 3 and 5, in that order.
+pub fn blank(
+    sheet: &mut [u8],
+    n: usize,
+    t: usize,
+    serial: u16,
+    sealing_key: &[u8],
+    checking_key: &[u8],
+) -> Answer {
+    match tested_blanking(sheet, n, t, sealing_key, checking_key) {
+        Ok(pair) => {
+            let serial = serial.to_be_bytes();
             sheet.fill(0);
             sheet[0..2].copy_from_slice(&(n as u16).to_be_bytes());
             sheet[2] = t as u8;
             sheet[3] = Edition::BLANKED.number();
-            sheet[8..10].copy_from_slice(&serial.to_be_bytes());
+            sheet[8..10].copy_from_slice(&serial);
+            sheet[10..16].copy_from_slice(&pair.mark(n, t, serial));
             Answer::accepted(0)
         }
         Err(number) => Answer::refused(number),
     }
 }
 
-fn blanking_tests(sheet: &[u8], n: usize, t: usize) -> Result<(), u8> {
+fn tested_blanking(
+    sheet: &[u8],
+    n: usize,
+    t: usize,
+    sealing_key: &[u8],
+    checking_key: &[u8],
+) -> Result<Pair, u8> {
     refuse_if(!is_key_class(t), WRONG_KEY)?;
+    let pair = Pair::tested(sealing_key, checking_key)?;
     refuse_if(!is_slot_count(n), WRONG_SPAN)?;
-    refuse_if(sheet.len() != Edition::BLANKED.sheet_length(n), WRONG_SPAN)
+    refuse_if(sheet.len() != Edition::BLANKED.sheet_length(n), WRONG_SPAN)?;
+    pair.test_class(t)?;
+    Ok(pair)
 }
 
 // ---- Writing ----
@@ -302,8 +326,8 @@ struct Written {
     field: Vec<u8>,
 }
 
-/// Writing a caption into a slot. Refusals 1, 2, 4, 5, 6, 7, 8; 4 points to the
-/// sheet's first fault.
+/// Writing a caption into a slot. Refusals 1, 2, 4, 5, 14, 6, 7, 8, in that
+/// order; 4 points to the sheet's first fault.
 pub fn write(
     sealing_key: &[u8],
     checking_key: &[u8],
@@ -360,21 +384,22 @@ fn tested_write(
     length: usize,
     plain: &[u8; FIELD],
 ) -> Result<Written, Refusal> {
-    let (sealing, checking) = key_pair(sealing_key, checking_key)?;
+    let pair = Pair::tested(sealing_key, checking_key)?;
     let header = tested_header(sheet)?;
-    refuse_if(sealing_key.len() != 2 * header.t, OTHER_KEY_CLASS)?;
+    pair.test_class(header.t)?;
+    pair.test_mark(&header)?;
     refuse_if(slot >= header.n, NO_SUCH_SLOT)?;
     refuse_if(length > FIELD, OVERLONG)?;
     let write_number = header.w.checked_add(1).ok_or(WORN)?;
 
     let length = length as u16;
-    let start = start_block(sealing, &header, write_number, slot);
-    let field = sealed_field(sealing, start, plain);
+    let start = start_block(pair.sealing, &header, write_number, slot);
+    let field = sealed_field(pair.sealing, start, plain);
     let mark = Mark {
         write_number,
         length,
         zeros: [0; 2],
-        check: check(checking, write_number, slot, length, &field),
+        check: check(pair.checking, write_number, slot, length, &field),
     };
     Ok(Written {
         header,
@@ -411,9 +436,9 @@ pub(crate) struct Caption {
     window: Vec<u8>,
 }
 
-/// Reading a slot into a window of 192 bytes. Refusals 1, 2, 3, 4, 5, 6, 9,
-/// 10; 4 points to the sheet's first fault, 10 to the check or an opened byte. A
-/// refused read makes every byte of its window zero.
+/// Reading a slot into a window of 192 bytes. Refusals 1, 2, 3, 4, 5, 14, 6, 9,
+/// 10, in that order; 4 points to the sheet's first fault, 10 to the check or an
+/// opened byte. A refused read makes every byte of its window zero.
 pub fn read(
     sealing_key: &[u8],
     checking_key: &[u8],
@@ -446,30 +471,31 @@ fn tested_read(
     slot: usize,
     window: &[u8],
 ) -> Result<Caption, Refusal> {
-    let keys = key_pair(sealing_key, checking_key)?;
+    let pair = Pair::tested(sealing_key, checking_key)?;
     refuse_if(window.len() != FIELD, WRONG_SPAN)?;
     let header = tested_header(sheet)?;
-    refuse_if(sealing_key.len() != 2 * header.t, OTHER_KEY_CLASS)?;
+    pair.test_class(header.t)?;
+    pair.test_mark(&header)?;
     refuse_if(slot >= header.n, NO_SUCH_SLOT)?;
     let mark = mark_of(sheet, &header, slot).ok_or(BLANK)?;
-    tested_caption(keys, sheet, &header, slot, &mark)
+    tested_caption(&pair, sheet, &header, slot, &mark)
 }
 
 /// Test 10: the check, or else the first opened byte at or past the length that
 /// isn't zero.
 pub(crate) fn tested_caption(
-    (sealing, checking): (Register, Register),
+    pair: &Pair,
     sheet: &[u8],
     header: &Header,
     slot: usize,
     mark: &Mark,
 ) -> Result<Caption, Refusal> {
     let field = &sheet[header.field_place(slot)];
-    let true_check = check(checking, mark.write_number, slot, mark.length, field);
+    let true_check = check(pair.checking, mark.write_number, slot, mark.length, field);
     let differs = mark.check != true_check;
     refuse_if(differs, Refusal::altered(Fault::Check { slot }))?;
-    let start = start_block(sealing, header, mark.write_number, slot);
-    let opened = opened_field(sealing, start, field);
+    let start = start_block(pair.sealing, header, mark.write_number, slot);
+    let opened = opened_field(pair.sealing, start, field);
     match (usize::from(mark.length)..FIELD).find(|place| opened[*place] != 0) {
         Some(place) => Err(Refusal::altered(Fault::OpenedByte { slot, place })),
         None => Ok(Caption {

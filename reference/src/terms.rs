@@ -1,13 +1,11 @@
-//! The term sheet and the dated read (document 02, requests 1 and 5).
+//! The term sheet and the dated read (document 02, requests 1, 5 and 7).
 
 use crate::calendar::LAST_DAY;
 use crate::faults::Fault;
-use crate::sheet::{
-    answer_read, key_pair, mark_of, number, tested_caption, tested_header, Caption, FIELD,
-};
+use crate::keys::Pair;
+use crate::sheet::{answer_read, mark_of, number, tested_caption, tested_header, Caption, FIELD};
 use crate::{
-    refuse_if, Pointed, Refusal, BLANK, NOT_ON_SHOW, NO_SUCH_DATE, NO_SUCH_SLOT, OTHER_KEY_CLASS,
-    WRONG_SPAN,
+    refuse_if, Pointed, Refusal, BLANK, NOT_ON_SHOW, NO_SUCH_DATE, NO_SUCH_SLOT, WRONG_SPAN,
 };
 
 /// The term of a slot.
@@ -54,8 +52,8 @@ fn fit_terms(terms: &[u8], n: usize) -> Option<Vec<Term>> {
 }
 
 /// Reading a slot on a day into a window of 192 bytes. Refusals 1, 2, 3, 4 for
-/// the caption sheet, 4 for the term sheet, 5, 11, 6, 9, 12, 10, in that order;
-/// 4 and 10 point as a read's do, 4 for the term sheet to that sheet as such. A
+/// the caption sheet, 4 for the term sheet, 5, 11, 14, 6, 9, 12, 10, in that
+/// order; 4 and 10 point as a read's do, 4 for the term sheet to that sheet as such. A
 /// refused read makes every byte of its window zero.
 pub fn dated_read(
     sealing_key: &[u8],
@@ -79,14 +77,15 @@ fn tested_dated_read(
     day: usize,
     window: &[u8],
 ) -> Result<Caption, Refusal> {
-    let keys = key_pair(sealing_key, checking_key)?;
+    let pair = Pair::tested(sealing_key, checking_key)?;
     refuse_if(window.len() != FIELD, WRONG_SPAN)?;
     let header = tested_header(sheet)?;
     let terms = fit_terms(terms, header.n).ok_or(Refusal::unfit(Some(Fault::Terms)))?;
-    refuse_if(sealing_key.len() != 2 * header.t, OTHER_KEY_CLASS)?;
+    pair.test_class(header.t)?;
     refuse_if(day > LAST_DAY, NO_SUCH_DATE)?;
+    pair.test_mark(&header)?;
     refuse_if(slot >= header.n, NO_SUCH_SLOT)?;
     let mark = mark_of(sheet, &header, slot).ok_or(BLANK)?;
     refuse_if(!terms[slot].on_show(day), NOT_ON_SHOW)?;
-    tested_caption(keys, sheet, &header, slot, &mark)
+    tested_caption(&pair, sheet, &header, slot, &mark)
 }

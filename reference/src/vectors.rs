@@ -3,9 +3,10 @@
 use crate::bench::{array_after, bench_block};
 use crate::cipher::{decrypt_block, encrypt, encrypt_block, opening_key, sealing_key};
 use crate::cipher::{Block, Register};
+use crate::keys::mark_block;
 use crate::modes::{cbc_decrypt, cbc_encrypt, cmac, cmac_steps};
 use crate::sheet::Edition;
-use crate::{blank, cipher, clear, listing, read, write, Answer, Pointed};
+use crate::{blank, cipher, clear, key_mark, listing, read, write, Answer, Pointed};
 
 /// The values of t.
 const CLASSES: [usize; 3] = [4, 6, 8];
@@ -195,11 +196,49 @@ fn cbc_both_ways(key: &[u8], n: usize, text: &[u8]) -> (Vec<u8>, Vec<u8>) {
     (encrypted.concat(), decrypted.concat())
 }
 
+/// t, n, serial, sealing key, checking key, sealed block, CMAC of it, key mark.
+pub fn marks() -> String {
+    let mut lines = String::new();
+    for t in CLASSES {
+        for n in [1, 2, 255, 256] {
+            for serial in [0, 1, 256, list_serial(t), 65535] {
+                lines += &mark_line(t, n, serial);
+            }
+        }
+    }
+    lines
+}
+
+/// The values of a key mark, by the calls `encrypt_block`, `cmac` and `key_mark`.
+fn mark_line(t: usize, n: usize, serial: u16) -> String {
+    let (sealing, checking) = list_keys(t);
+    let mut sealed = [0; 8];
+    let mut mac = [0; 8];
+    let block = mark_block(n, t, serial.to_be_bytes());
+    encrypt_block(&sealing, &block, &mut sealed);
+    cmac(&checking, &sealed, &mut mac);
+    let mark = key_mark(n, t, serial, &sealing, &checking).unwrap_or_default();
+    let values = [&sealing[..], &checking, &sealed, &mac, &mark].map(hex);
+    format!("{t} {n} {serial} {}\n", values.join(" "))
+}
+
+/// The pair of keys of a list of calls.
+fn list_keys(t: usize) -> (Vec<u8>, Vec<u8>) {
+    (key(t, t), key(t, t + 1))
+}
+
+/// The serial of a sheet of a list of calls, 0x5a00 + t.
+fn list_serial(t: usize) -> u16 {
+    0x5a00 + t as u16
+}
+
 /// A list of calls on a sheet of three slots, for each t: on a blanked one,
-/// then on an edition 1 sheet.
+/// then on an edition 2 sheet, then on an edition 1 sheet.
 pub fn sheet() -> String {
     CLASSES
-        .map(|t| on_blanked_sheet(t) + &on_old_sheet(t))
+        .map(|t| {
+            on_blanked_sheet(t) + &on_old_sheet(Edition::Two, t) + &on_old_sheet(Edition::One, t)
+        })
         .concat()
 }
 
@@ -209,29 +248,32 @@ fn on_blanked_sheet(t: usize) -> String {
     list_of_calls(t, "blank", answer, sheet)
 }
 
-/// The list on a blank sheet of edition 1.
-fn on_old_sheet(t: usize) -> String {
-    list_of_calls(t, "old", Answer::accepted(0), old_sheet(t))
+/// The list on a blank sheet of edition 1 or 2.
+fn on_old_sheet(edition: Edition, t: usize) -> String {
+    list_of_calls(t, "old", Answer::accepted(0), old_sheet(edition, t))
 }
 
-/// A sheet of three slots, blanked with the serial 0x5a00 + t.
+/// A sheet of three slots, blanked with the pair of the list.
 fn blanked_sheet(t: usize) -> (Answer, Vec<u8>) {
+    let (sealing, checking) = list_keys(t);
     let mut sheet = vec![0xff; Edition::BLANKED.sheet_length(3)];
-    let answer = blank(&mut sheet, 3, t, 0x5a00 + t as u16);
+    let answer = blank(&mut sheet, 3, t, list_serial(t), &sealing, &checking);
     (answer, sheet)
 }
 
-/// A blank sheet of three slots of edition 1, which no call makes.
-fn old_sheet(t: usize) -> Vec<u8> {
-    let mut sheet = vec![0; Edition::One.sheet_length(3)];
-    sheet[0..4].copy_from_slice(&[0, 3, t as u8, 1]);
+/// A blank sheet of three slots of edition 1 or 2, which no call makes.
+fn old_sheet(edition: Edition, t: usize) -> Vec<u8> {
+    let mut sheet = vec![0; edition.sheet_length(3)];
+    sheet[0..4].copy_from_slice(&[0, 3, t as u8, edition.number()]);
+    if let Edition::Two = edition {
+        sheet[8..10].copy_from_slice(&list_serial(t).to_be_bytes());
+    }
     sheet
 }
 
 /// The list, after a line that says where the sheet comes from.
 fn list_of_calls(t: usize, origin: &str, answer: Answer, mut sheet: Vec<u8>) -> String {
-    let sealing = key(t, t);
-    let checking = key(t, t + 1);
+    let (sealing, checking) = list_keys(t);
     let mut lines = call_line(origin, answer, &checking, &sheet);
     lines += &accepted_writes(&sealing, &checking, &mut sheet);
     let answer = clear(&mut sheet, 0);
@@ -277,8 +319,8 @@ fn write_lines(
 }
 
 /// A write with the sealing key for both keys, which is refused, and one with a
-/// near twin of it for the checking key, which is accepted. The lines keep to
-/// the sheet's own checking key.
+/// near twin of it for the checking key, which edition 3 refuses and the older
+/// editions accept. The lines keep to the list's own checking key.
 fn twin_writes(sealing_key: &[u8], checking_key: &[u8], sheet: &mut [u8]) -> String {
     let mut lines = String::new();
     for second_key in [sealing_key.to_vec(), near_twin(sealing_key)] {
@@ -316,16 +358,15 @@ fn call_line(call: &str, answer: Answer, checking_key: &[u8], sheet: &[u8]) -> S
 /// For each edition and each t a sheet of three slots, then a line for each of
 /// its bits.
 pub fn faults() -> String {
-    let old = CLASSES.map(|t| flipped_reads(Edition::One, t, old_sheet(t)));
+    let old = |edition| CLASSES.map(|t| flipped_reads(edition, t, old_sheet(edition, t)));
     let blanked = CLASSES.map(|t| flipped_reads(Edition::BLANKED, t, blanked_sheet(t).1));
-    old.concat() + &blanked.concat()
+    old(Edition::One).concat() + &old(Edition::Two).concat() + &blanked.concat()
 }
 
 /// "sheet", edition, t, sealing key, checking key, the sheet; then byte, bit,
 /// number, rule, slot, place of a read of it with that bit flipped.
 fn flipped_reads(edition: Edition, t: usize, mut sheet: Vec<u8>) -> String {
-    let sealing = key(t, t);
-    let checking = key(t, t + 1);
+    let (sealing, checking) = list_keys(t);
     for (slot, length) in [(0, 5), (1, 17), (2, 192)] {
         write(&sealing, &checking, &mut sheet, slot, &text(slot, length));
     }

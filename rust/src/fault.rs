@@ -14,7 +14,7 @@ use std::fmt;
 /// use captions::{blank, first_fault, sheet_len, Fault};
 ///
 /// let mut sheet = vec![0; sheet_len(2)];
-/// blank(&mut sheet, 2, 4, 1).unwrap();
+/// blank(&mut sheet, 2, 4, 1, b"seal it.", b"check it").unwrap();
 /// assert_eq!(first_fault(&sheet), None);
 ///
 /// let torn = first_fault(&sheet[..212]).unwrap();
@@ -45,7 +45,7 @@ pub enum Fault {
         /// Byte 2.
         words: u8,
     },
-    /// Rule 4: byte 3 is neither edition 1 nor 2.
+    /// Rule 4: byte 3 is no edition, 1, 2 or 3.
     Edition {
         /// Byte 3.
         edition: u8,
@@ -189,7 +189,7 @@ impl fmt::Display for Fault {
                 "keys of {words} words, where a sheet has 4, 6 or 8 (byte 2)"
             ),
             Fault::Edition { edition } => {
-                write!(f, "edition {edition}, where there are 1 and 2 (byte 3)")
+                write!(f, "edition {edition}, where there are 1, 2 and 3 (byte 3)")
             }
             Fault::HeaderByte { place } => write!(f, "byte {place} of the header is not zero"),
             Fault::Length {
@@ -245,7 +245,7 @@ impl fmt::Display for Fault {
 /// use captions::{blank, read, sheet_len, write, Change, Refusal, FIELD};
 ///
 /// let mut sheet = vec![0; sheet_len(1)];
-/// blank(&mut sheet, 1, 4, 1)?;
+/// blank(&mut sheet, 1, 4, 1, &[1; 8], &[2; 8])?;
 /// write(&[1; 8], &[2; 8], &mut sheet, 0, b"Clock")?;
 /// sheet[100] ^= 1;
 /// let refusal = read(&[1; 8], &[2; 8], &sheet, 0, &mut [0; FIELD]).unwrap_err();
@@ -329,7 +329,7 @@ fn number(sheet: &[u8], place: usize) -> u32 {
 /// The bytes before the marks, by the edition in byte 3.
 fn header(sheet: &[u8]) -> usize {
     match byte(sheet, 3) {
-        2 => HEADER,
+        2 | 3 => HEADER,
         _ => HEADER_1,
     }
 }

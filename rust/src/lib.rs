@@ -2,6 +2,7 @@
 //!
 //! A sheet is a buffer of bytes with up to 256 slots, each blank or holding a
 //! caption of up to 192 bytes, sealed under one key and checked under another.
+//! One pair of keys serves a sheet, the pair that it was blanked with ([`blank`]).
 //! A term sheet beside it says when each slot is on show ([`dated_read`]).
 //! Everything that decides is in the proved library; this crate lends it slices
 //! and gives its answers Rust's types. Any length and any number may be given:
@@ -13,7 +14,7 @@
 //! let sealing_key = *b"seal it.";
 //! let checking_key = *b"check it";
 //! let mut sheet = vec![0; sheet_len(2)];
-//! blank(&mut sheet, 2, 4, 1)?;
+//! blank(&mut sheet, 2, 4, 1, &sealing_key, &checking_key)?;
 //! write(&sealing_key, &checking_key, &mut sheet, 1, b"Vase, 1751")?;
 //!
 //! let mut window = [0; FIELD];
@@ -65,7 +66,7 @@ pub const LISTING: usize = 6836;
 pub const LAST_DAY: u16 = 36524;
 
 /// The bytes of a sheet with that many slots; `usize::MAX` where that is less.
-/// Blanking makes such sheets, of edition 2.
+/// Blanking makes such sheets, of edition 3; one of edition 2 has as many bytes.
 ///
 /// ```
 /// assert_eq!(captions::sheet_len(1), 224);
@@ -76,8 +77,8 @@ pub const fn sheet_len(slots: usize) -> usize {
 }
 
 /// The bytes of a sheet of edition 1 with that many slots; `usize::MAX` where
-/// that is less. Such a sheet has no serial; it is still read, written, cleared
-/// and listed, and no longer made.
+/// that is less. Such a sheet has no serial and no key mark; it is still read,
+/// written, cleared and listed, and no longer made.
 ///
 /// ```
 /// assert_eq!(captions::sheet_len_1(1), 216);
@@ -198,9 +199,14 @@ pub fn cmac(key: &[u8], message: &[u8], out: &mut [u8]) -> Result<(), Refusal> {
     done(library::cmac(key, message, out))
 }
 
-/// Makes a buffer of [`sheet_len`]`(slots)` bytes a sheet of blank slots, for
-/// keys of `key_words` 16-bit words: 4, 6 or 8 for keys of 8, 12 or 16 bytes.
-/// What the buffer held doesn't matter.
+/// Makes a buffer of [`sheet_len`]`(slots)` bytes a sheet of blank slots for this
+/// pair of keys, which have `key_words` 16-bit words each: 4, 6 or 8 for keys of
+/// 8, 12 or 16 bytes. What the buffer held doesn't matter.
+///
+/// That pair serves the sheet from then on. Bytes 10 to 15 are the key mark, made
+/// from both keys, `slots`, `key_words` and `serial`; a read or write under a
+/// pair with another mark is refused, [`Refusal::OtherKeys`], before anything is
+/// opened. A mark has 48 bits: another pair can have the same one by chance.
 ///
 /// Write numbers begin again at 1, so give every sheet that a pair of keys
 /// serves a `serial` of its own, a sheet that is blanked again a new one: sheets
@@ -210,47 +216,69 @@ pub fn cmac(key: &[u8], message: &[u8], out: &mut [u8]) -> Result<(), Refusal> {
 ///
 /// # Errors
 ///
-/// [`Refusal::WrongKey`] for another number of words, [`Refusal::WrongSpan`]
-/// for `slots` outside 1 to 256 or a buffer of another length; `sheet` is then
-/// as it was.
+/// In the order of the tests: [`Refusal::WrongKey`] for another number of words
+/// or a wrong key, [`Refusal::TwinKeys`], [`Refusal::WrongSpan`] for `slots`
+/// outside 1 to 256 or a buffer of another length, and
+/// [`Refusal::OtherKeyClass`] for keys that haven't so many words; `sheet` is
+/// then as it was.
 ///
 /// ```
-/// use captions::{blank, list, sheet_len, Refusal};
+/// use captions::{blank, list, read, sheet_len, Refusal, FIELD};
 ///
+/// let (sealing_key, checking_key) = ([1; 8], [2; 8]);
 /// let mut sheet = vec![0xff; sheet_len(2)];
-/// blank(&mut sheet, 2, 4, 1)?;
+/// blank(&mut sheet, 2, 4, 1, &sealing_key, &checking_key)?;
 /// assert_eq!(list(&sheet), b"slots 2 key 64 last 0\n0 blank\n1 blank\n");
 /// assert_eq!(sheet[8..10], [0, 1]);
-/// assert_eq!(blank(&mut sheet, 2, 5, 2), Err(Refusal::WrongKey));
-/// assert_eq!(blank(&mut sheet, 3, 4, 2), Err(Refusal::WrongSpan));
+/// let answer = blank(&mut sheet, 2, 6, 2, &sealing_key, &checking_key);
+/// assert_eq!(answer, Err(Refusal::OtherKeyClass));
+///
+/// let mut window = [0; FIELD];
+/// let answer = read(&sealing_key, &checking_key, &sheet, 0, &mut window);
+/// assert_eq!(answer, Err(Refusal::Blank));
+/// let answer = read(&sealing_key, &[3; 8], &sheet, 0, &mut window);
+/// assert_eq!(answer, Err(Refusal::OtherKeys));
 /// # Ok::<(), Refusal>(())
 /// ```
-pub fn blank(sheet: &mut [u8], slots: usize, key_words: usize, serial: u16) -> Result<(), Refusal> {
-    done(library::blank(sheet, slots, key_words, serial))
+pub fn blank(
+    sheet: &mut [u8],
+    slots: usize,
+    key_words: usize,
+    serial: u16,
+    sealing_key: &[u8],
+    checking_key: &[u8],
+) -> Result<(), Refusal> {
+    let answer = library::blank(sheet, slots, key_words, serial, sealing_key, checking_key);
+    done(answer)
 }
 
 /// Writes a caption of 0 to 192 bytes into a slot, counted from 0, in place of
-/// what the slot held. One pair of keys serves a sheet: the library doesn't
-/// know which pair the other slots were written with.
+/// what the slot held. One pair of keys serves a sheet: one of edition 3 refuses
+/// every pair with another mark ([`blank`]). One of edition 1 or 2 has no key
+/// mark: there another pair of the right length writes, and which pair a slot was
+/// written with is for the caller to know.
 ///
 /// # Errors
 ///
-/// [`Refusal::WrongKey`], [`Refusal::TwinKeys`], [`Refusal::UnfitSheet`],
-/// [`Refusal::OtherKeyClass`], [`Refusal::NoSuchSlot`], [`Refusal::Overlong`]
-/// and [`Refusal::Worn`]; `sheet` is then as it was.
+/// In the order of the tests: [`Refusal::WrongKey`], [`Refusal::TwinKeys`],
+/// [`Refusal::UnfitSheet`], [`Refusal::OtherKeyClass`], [`Refusal::OtherKeys`],
+/// [`Refusal::NoSuchSlot`], [`Refusal::Overlong`] and [`Refusal::Worn`]; `sheet`
+/// is then as it was.
 ///
 /// ```
 /// use captions::{blank, list, sheet_len, write, Refusal};
 ///
 /// let (sealing_key, checking_key) = ([1; 12], [2; 12]);
 /// let mut sheet = vec![0; sheet_len(1)];
-/// blank(&mut sheet, 1, 6, 1)?;
+/// blank(&mut sheet, 1, 6, 1, &sealing_key, &checking_key)?;
 /// write(&sealing_key, &checking_key, &mut sheet, 0, b"Clock")?;
 /// write(&sealing_key, &checking_key, &mut sheet, 0, b"Clock, 1790")?;
 /// assert_eq!(list(&sheet), b"slots 1 key 96 last 2\n0 written 2 11\n");
 /// let overlong = [b'x'; 193];
 /// let answer = write(&sealing_key, &checking_key, &mut sheet, 0, &overlong);
 /// assert_eq!(answer, Err(Refusal::Overlong));
+/// let answer = write(&checking_key, &sealing_key, &mut sheet, 0, b"Clock");
+/// assert_eq!(answer, Err(Refusal::OtherKeys));
 /// # Ok::<(), Refusal>(())
 /// ```
 pub fn write(
@@ -264,7 +292,8 @@ pub fn write(
     pointed(answer, sheet).map(|_| ())
 }
 
-/// Makes a slot blank; a blank one stays blank.
+/// Makes a slot blank; a blank one stays blank. It takes no keys, so anybody's
+/// clear is done.
 ///
 /// # Errors
 ///
@@ -275,7 +304,7 @@ pub fn write(
 /// use captions::{blank, clear, list, sheet_len, write, Refusal};
 ///
 /// let mut sheet = vec![0; sheet_len(1)];
-/// blank(&mut sheet, 1, 4, 1)?;
+/// blank(&mut sheet, 1, 4, 1, &[1; 8], &[2; 8])?;
 /// write(&[1; 8], &[2; 8], &mut sheet, 0, b"Clock")?;
 /// clear(&mut sheet, 0)?;
 /// assert_eq!(list(&sheet), b"slots 1 key 64 last 1\n0 blank\n");
@@ -314,16 +343,17 @@ pub fn first_fault(sheet: &[u8]) -> Option<Fault> {
 ///
 /// # Errors
 ///
-/// [`Refusal::WrongKey`], [`Refusal::TwinKeys`], [`Refusal::WrongSpan`],
-/// [`Refusal::UnfitSheet`], [`Refusal::OtherKeyClass`],
-/// [`Refusal::NoSuchSlot`], [`Refusal::Blank`] and [`Refusal::Altered`]; every
-/// byte of the window is then zero, whatever its length.
+/// In the order of the tests: [`Refusal::WrongKey`], [`Refusal::TwinKeys`],
+/// [`Refusal::WrongSpan`], [`Refusal::UnfitSheet`], [`Refusal::OtherKeyClass`],
+/// [`Refusal::OtherKeys`], [`Refusal::NoSuchSlot`], [`Refusal::Blank`] and
+/// [`Refusal::Altered`]; every byte of the window is then zero, whatever its
+/// length.
 ///
 /// ```
 /// use captions::{blank, read, sheet_len, write, Refusal, FIELD};
 ///
 /// let mut sheet = vec![0; sheet_len(2)];
-/// blank(&mut sheet, 2, 4, 1)?;
+/// blank(&mut sheet, 2, 4, 1, &[1; 8], &[2; 8])?;
 /// write(&[1; 8], &[2; 8], &mut sheet, 0, b"Clock")?;
 /// let mut window = [0xff; FIELD];
 /// let length = read(&[1; 8], &[2; 8], &sheet, 0, &mut window)?;
@@ -331,6 +361,9 @@ pub fn first_fault(sheet: &[u8]) -> Option<Fault> {
 /// assert_eq!(read(&[1; 8], &[2; 8], &sheet, 1, &mut window), Err(Refusal::Blank));
 /// assert_eq!(window, [0; FIELD]);
 /// let refusal = read(&[1; 8], &[3; 8], &sheet, 0, &mut window).unwrap_err();
+/// assert_eq!(refusal.to_string(), "other keys");
+/// sheet[100] ^= 1;
+/// let refusal = read(&[1; 8], &[2; 8], &sheet, 0, &mut window).unwrap_err();
 /// assert_eq!(refusal.to_string(), "altered: the check differs");
 /// # Ok::<(), Refusal>(())
 /// ```
@@ -353,15 +386,15 @@ pub fn read(
 /// In the order of the tests: [`Refusal::WrongKey`], [`Refusal::TwinKeys`],
 /// [`Refusal::WrongSpan`], [`Refusal::UnfitSheet`] (the sheet, then the term
 /// sheet), [`Refusal::OtherKeyClass`], [`Refusal::NoSuchDate`],
-/// [`Refusal::NoSuchSlot`], [`Refusal::Blank`], [`Refusal::NotOnShow`] and
-/// [`Refusal::Altered`]; every byte of the window is then zero, whatever its
-/// length.
+/// [`Refusal::OtherKeys`], [`Refusal::NoSuchSlot`], [`Refusal::Blank`],
+/// [`Refusal::NotOnShow`] and [`Refusal::Altered`]; every byte of the window is
+/// then zero, whatever its length.
 ///
 /// ```
 /// use captions::{blank, dated_read, day_of_date, sheet_len, write, Refusal, FIELD};
 ///
 /// let mut sheet = vec![0; sheet_len(1)];
-/// blank(&mut sheet, 1, 4, 1)?;
+/// blank(&mut sheet, 1, 4, 1, &[1; 8], &[2; 8])?;
 /// write(&[1; 8], &[2; 8], &mut sheet, 0, b"Clock")?;
 /// let (opening, closing) = (day_of_date(2026, 5, 1)?, day_of_date(2026, 10, 31)?);
 /// let terms = [1, opening, closing].map(u16::to_be_bytes).concat();

@@ -82,6 +82,10 @@ mod c {
             slots: usize,
             key_words: usize,
             serial: u16,
+            sealing_key: *const u8,
+            sealing_len: usize,
+            checking_key: *const u8,
+            checking_len: usize,
         ) -> Answer;
         pub fn captions_write(
             sealing_key: *const u8,
@@ -190,9 +194,28 @@ pub fn cmac(key: &[u8], message: &[u8], out: &mut [u8]) -> Answer {
     }
 }
 
-pub fn blank(sheet: &mut [u8], slots: usize, key_words: usize, serial: u16) -> Answer {
+pub fn blank(
+    sheet: &mut [u8],
+    slots: usize,
+    key_words: usize,
+    serial: u16,
+    sealing_key: &[u8],
+    checking_key: &[u8],
+) -> Answer {
     // SAFETY: as at the head of this file.
-    unsafe { c::captions_blank(sheet.as_mut_ptr(), sheet.len(), slots, key_words, serial) }
+    unsafe {
+        c::captions_blank(
+            sheet.as_mut_ptr(),
+            sheet.len(),
+            slots,
+            key_words,
+            serial,
+            sealing_key.as_ptr(),
+            sealing_key.len(),
+            checking_key.as_ptr(),
+            checking_key.len(),
+        )
+    }
 }
 
 pub fn write(

@@ -25,7 +25,7 @@ pub enum Refusal {
     /// 1: a key isn't 8, 12 or 16 bytes, or the two lengths differ; blanking:
     /// the key words aren't 4, 6 or 8.
     WrongKey,
-    /// 2: sealing and checking key are equal (read, write).
+    /// 2: sealing and checking key are equal.
     TwinKeys,
     /// 3: a block, an array or their output isn't 8 bytes, a check output isn't
     /// 8, a window isn't 192; blanking: the slots aren't 1 to 256 or the buffer
@@ -36,7 +36,8 @@ pub enum Refusal {
     /// day above [`LAST_DAY`](crate::LAST_DAY), in any slot. With the rule that
     /// is broken first.
     UnfitSheet(Fault),
-    /// 5: the keys have another length than the sheet's.
+    /// 5: the keys have another length than the sheet's; blanking: than the key
+    /// words have.
     OtherKeyClass,
     /// 6: the slot isn't below the slot count.
     NoSuchSlot,
@@ -56,13 +57,15 @@ pub enum Refusal {
     NotOnShow,
     /// 13: the bench, for a round above [`ROUNDS`](crate::ROUNDS).
     NoSuchRound,
+    /// 14: a sheet of edition 3 whose key mark isn't that of the two keys.
+    OtherKeys,
     /// A number that this crate has no word for, shown as "refused". The library
     /// never gives one: this is what stands in for a panic if it did.
     Other(u8),
 }
 
-/// The refusals that have a word, in the order of their numbers, 1 to 13.
-const WORDS: [(Refusal, &str); 13] = [
+/// The refusals that have a word, in the order of their numbers, 1 to 14.
+const WORDS: [(Refusal, &str); 14] = [
     (Refusal::WrongKey, "wrong key"),
     (Refusal::TwinKeys, "twin keys"),
     (Refusal::WrongSpan, "wrong span"),
@@ -76,6 +79,7 @@ const WORDS: [(Refusal, &str); 13] = [
     (Refusal::NoSuchDate, "no such date"),
     (Refusal::NotOnShow, "not on show"),
     (Refusal::NoSuchRound, "no such round"),
+    (Refusal::OtherKeys, "other keys"),
 ];
 
 impl Refusal {
@@ -134,6 +138,7 @@ impl Refusal {
             Refusal::NoSuchDate => 11,
             Refusal::NotOnShow => 12,
             Refusal::NoSuchRound => 13,
+            Refusal::OtherKeys => 14,
             Refusal::Other(number) => number,
         }
     }

@@ -1,11 +1,11 @@
 //! Numbers and words of the refusals.
 
 use captions::{
-    clear, dated_read, first_fault, read, sheet_len, sheet_len_1, write, Change, Fault, Refusal,
-    FIELD, MARK,
+    blank, clear, dated_read, first_fault, read, sheet_len, sheet_len_1, write, Change, Fault,
+    Refusal, FIELD, MARK,
 };
 
-const WORDS: [&str; 13] = [
+const WORDS: [&str; 14] = [
     "wrong key",
     "twin keys",
     "wrong span",
@@ -19,6 +19,7 @@ const WORDS: [&str; 13] = [
     "no such date",
     "not on show",
     "no such round",
+    "other keys",
 ];
 
 #[test]
@@ -56,13 +57,22 @@ fn a_refusal_is_an_error_that_crosses_threads() {
 
 const KEYS: [[u8; 8]; 2] = [[1; 8], [2; 8]];
 
+/// A blank sheet; no function makes one of an older edition any more.
+fn blank_sheet(edition: u8, slots: u8) -> Vec<u8> {
+    let mut sheet = match edition {
+        1 => vec![0; sheet_len_1(slots.into())],
+        _ => vec![0; sheet_len(slots.into())],
+    };
+    match edition {
+        3 => blank(&mut sheet, slots.into(), 4, 0, &KEYS[0], &KEYS[1]).unwrap(),
+        _ => sheet[..4].copy_from_slice(&[0, slots, 4, edition]),
+    }
+    sheet
+}
+
 /// A sheet of two slots with a caption of 5 bytes in slot 1.
 fn sheet(edition: u8) -> Vec<u8> {
-    let mut sheet = match edition {
-        1 => vec![0; sheet_len_1(2)],
-        _ => vec![0; sheet_len(2)],
-    };
-    sheet[..4].copy_from_slice(&[0, 2, 4, edition]);
+    let mut sheet = blank_sheet(edition, 2);
     write(&KEYS[0], &KEYS[1], &mut sheet, 1, b"Clock").unwrap();
     sheet
 }
@@ -110,13 +120,22 @@ fn words_for_somebody_on_the_floor() {
         ),
         (
             changed(1, &[(3, 0)]),
-            "edition 0, where there are 1 and 2 (byte 3)",
+            "edition 0, where there are 1, 2 and 3 (byte 3)",
+        ),
+        (
+            changed(3, &[(3, 4)]),
+            "edition 4, where there are 1, 2 and 3 (byte 3)",
         ),
         (
             changed(2, &[(11, 1), (13, 1)]),
             "byte 11 of the header is not zero",
         ),
         (whole[..212].to_vec(), "212 bytes, where 2 slots have 432"),
+        (
+            sheet(3)[..212].to_vec(),
+            "212 bytes, where 2 slots have 432",
+        ),
+        (sheet(3)[..12].to_vec(), "12 bytes, where 2 slots have 432"),
         (
             sheet(1)[..212].to_vec(),
             "212 bytes, where 2 slots have 424",
@@ -146,6 +165,11 @@ fn words_for_somebody_on_the_floor() {
             changed(2, &[(39, 9)]),
             "slot 1: byte 7 of its mark is not zero (byte 39)",
         ),
+        // Edition 3's key mark has no rule of its own.
+        (
+            changed(3, &[(11, 1), (39, 9)]),
+            "slot 1: byte 7 of its mark is not zero (byte 39)",
+        ),
     ];
     for (sheet, words) in cases {
         assert_eq!(unfit(&sheet), format!("unfit sheet: {words}"));
@@ -153,25 +177,17 @@ fn words_for_somebody_on_the_floor() {
     assert_eq!(first_fault(&whole), None);
 }
 
-/// The places of document 02's issue: slot 3 in a sheet of either edition.
+/// The places of document 02's issue: slot 3 in a sheet of each edition.
 #[test]
 fn the_bytes_of_a_length() {
-    for (edition, length, words) in [
-        (
-            2,
-            sheet_len(4),
-            "slot 3: length above 192 (bytes 68 and 69)",
-        ),
-        (
-            1,
-            sheet_len_1(4),
-            "slot 3: length above 192 (bytes 60 and 61)",
-        ),
+    for (edition, words) in [
+        (3, "slot 3: length above 192 (bytes 68 and 69)"),
+        (2, "slot 3: length above 192 (bytes 68 and 69)"),
+        (1, "slot 3: length above 192 (bytes 60 and 61)"),
     ] {
-        let mut sheet = vec![0; length];
-        sheet[..4].copy_from_slice(&[0, 4, 4, edition]);
+        let mut sheet = blank_sheet(edition, 4);
         write(&KEYS[0], &KEYS[1], &mut sheet, 3, b"Clock").unwrap();
-        let header = length - 4 * (MARK + FIELD);
+        let header = sheet.len() - 4 * (MARK + FIELD);
         sheet[header + 3 * MARK + 4] = 1;
         assert_eq!(unfit(&sheet), format!("unfit sheet: {words}"));
     }
@@ -179,14 +195,20 @@ fn the_bytes_of_a_length() {
 
 #[test]
 fn what_is_altered() {
-    let mut sheet = self::sheet(2);
+    for edition in [1, 2, 3] {
+        what_is_altered_in(sheet(edition));
+    }
+}
+
+fn what_is_altered_in(whole: Vec<u8>) {
+    let mut sheet = whole.clone();
     sheet[400] ^= 1;
     let refusal = read(&KEYS[0], &KEYS[1], &sheet, 1, &mut [0; FIELD]).unwrap_err();
     assert_eq!(refusal, Refusal::Altered(Change::Check { slot: 1 }));
     assert_eq!(refusal.to_string(), "altered: the check differs");
 
     // Sealed by the second program with a byte behind the caption.
-    let mut sheet = self::sheet(2);
+    let mut sheet = whole;
     let mut field = [0; FIELD];
     field[..5].copy_from_slice(b"Clock");
     (field[45], field[46]) = (7, 8);
@@ -209,14 +231,14 @@ fn the_term_sheet_is_named() {
     let read = |sheet: &[u8], terms: &[u8]| {
         dated_read(&KEYS[0], &KEYS[1], sheet, terms, 1, 9, &mut [0; FIELD])
     };
-    let refusal = read(&sheet(2), &[]).unwrap_err();
+    let refusal = read(&sheet(3), &[]).unwrap_err();
     assert_eq!(refusal, Refusal::UnfitSheet(Fault::Terms));
     assert_eq!(
         refusal.to_string(),
         "unfit sheet: the term sheet does not fit"
     );
     // After all faults of the caption sheet.
-    let refusal = read(&changed(2, &[(39, 9)]), &[]).unwrap_err();
+    let refusal = read(&changed(3, &[(39, 9)]), &[]).unwrap_err();
     assert_eq!(
         refusal,
         Refusal::UnfitSheet(Fault::MarkByte {

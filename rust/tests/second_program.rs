@@ -38,13 +38,15 @@ impl Random {
         self.bytes(length)
     }
 
-    /// Keys that serve a blank sheet of an edition and a class.
-    fn keys(&mut self, edition: Edition, key_words: usize) -> [Vec<u8>; 2] {
-        match edition {
-            Edition::One | Edition::Two(_) => {
-                [self.bytes(2 * key_words), self.bytes(2 * key_words)]
-            }
-        }
+    /// A pair of keys of a class.
+    fn keys(&mut self, key_words: usize) -> [Vec<u8>; 2] {
+        [self.bytes(2 * key_words), self.bytes(2 * key_words)]
+    }
+
+    /// An edition of each kind.
+    fn editions(&mut self) -> [Edition; 3] {
+        let [two, three] = [self.serial(), self.serial()];
+        [Edition::One, Edition::Two(two), Edition::Three(three)]
     }
 
     /// A serial: those about every edge, and any.
@@ -64,7 +66,7 @@ impl Random {
 
 /// How often each answer was met, so that a test can see that it met them all.
 #[derive(Default)]
-struct Met([usize; 14]);
+struct Met([usize; 15]);
 
 impl Met {
     /// Compares an answer with the second program's.
@@ -165,7 +167,7 @@ fn checks() {
     met.all_of(&[0, 1, 3]);
 }
 
-/// The only blanking: other tests lay out a blank sheet.
+/// Every slot count, with keys that fit the class where there are such.
 #[test]
 fn blanking() {
     let edition = Edition::BLANKED;
@@ -180,37 +182,100 @@ fn blanking() {
             assert_eq!(new, edition.sheet_length(near));
             assert_eq!(old, Edition::One.sheet_length(near));
             let length = random.pick(&[new, new, new, new + 1, old]);
-            let (bytes, serial) = (random.bytes(length), random.serial());
-            let (mut sheet, mut expected) = (bytes.clone(), bytes);
-            let answer = captions::blank(&mut sheet, slots, key_words, serial).map(|()| 0);
-            met.compare(
-                answer,
-                reference::blank(&mut expected, slots, key_words, serial),
-            );
-            assert!(sheet == expected);
+            let keys = random.keys(key_words.clamp(4, 8));
+            let bytes = random.bytes(length);
+            blank_both(&mut random, slots, key_words, &keys, bytes, &mut met);
         }
     }
     met.all_of(&[0, 1, 3]);
+}
+
+/// Every refusal of blanking beside every other, and beside none.
+#[test]
+fn blankings_refusals_in_every_combination() {
+    let mut random = Random(6);
+    let mut met = Met::default();
+    for key_words in [4, 6, 8, 0, 3, 5, 7, 9, 260, usize::MAX] {
+        for keys in blanking_keys(&mut random) {
+            for slots in [0, 1, 2, 256, 257, usize::MAX] {
+                let near = slots.min(257);
+                let whole = sheet_len(near);
+                for length in [whole, whole - 1, whole + 1, sheet_len_1(near), 0] {
+                    let bytes = vec![0xa5; length];
+                    blank_both(&mut random, slots, key_words, &keys, bytes, &mut met);
+                }
+            }
+        }
+    }
+    met.all_of(&[0, 1, 2, 3, 5]);
+}
+
+/// Pairs with lengths that are taken and others, each with each: unlike keys, and
+/// where the lengths are the same twins too.
+fn blanking_keys(random: &mut Random) -> Vec<[Vec<u8>; 2]> {
+    const LENGTHS: [usize; 8] = [8, 12, 16, 0, 7, 10, 17, 32];
+    let mut pairs = Vec::new();
+    for sealing in LENGTHS {
+        let sealing = random.bytes(sealing);
+        pairs.push([sealing.clone(), sealing.clone()]);
+        for checking in LENGTHS {
+            pairs.push([sealing.clone(), random.bytes(checking)]);
+        }
+    }
+    pairs
+}
+
+/// A blanking by both, with some serial: the answer and every byte.
+fn blank_both(
+    random: &mut Random,
+    slots: usize,
+    key_words: usize,
+    [sealing, checking]: &[Vec<u8>; 2],
+    bytes: Vec<u8>,
+    met: &mut Met,
+) {
+    let serial = random.serial();
+    let (mut sheet, mut expected) = (bytes.clone(), bytes);
+    let answer = captions::blank(&mut sheet, slots, key_words, serial, sealing, checking);
+    met.compare(
+        answer.map(|()| 0),
+        reference::blank(&mut expected, slots, key_words, serial, sealing, checking),
+    );
+    assert!(sheet == expected);
+}
+
+/// A blank sheet that the keys serve.
+fn blank_for(edition: Edition, slots: usize, key_words: usize, keys: &[Vec<u8>; 2]) -> Vec<u8> {
+    let mut sheet = edition.blank_sheet(slots, key_words);
+    if let Edition::Three(serial) = edition {
+        let mark = reference::key_mark(slots, key_words, serial, &keys[0], &keys[1]);
+        sheet[10..HEADER].copy_from_slice(&mark.unwrap());
+    }
+    sheet
 }
 
 /// Lists of calls on one sheet, now and then with a byte of it changed.
 #[test]
 fn sheets() {
     let mut random = Random(4);
-    let mut met = Met::default();
-    for _ in 0..200 {
-        for edition in [Edition::One, Edition::Two(random.serial())] {
-            list_of_calls(&mut random, edition, &mut met);
+    let mut met: [Met; 3] = Default::default();
+    for _ in 0..250 {
+        for (edition, met) in random.editions().into_iter().zip(&mut met) {
+            list_of_calls(&mut random, edition, met);
         }
     }
-    met.all_of(&[0, 1, 2, 3, 4, 5, 6, 7, 8, 9, 10]);
+    let [one, two, three] = met;
+    for older in [one, two] {
+        older.all_of(&[0, 1, 2, 3, 4, 5, 6, 7, 8, 9, 10]);
+    }
+    three.all_of(&[0, 1, 2, 3, 4, 5, 6, 7, 8, 9, 10, 14]);
 }
 
 /// A list of calls on a sheet of an edition.
 fn list_of_calls(random: &mut Random, edition: Edition, met: &mut Met) {
     let (slots, key_words) = (1 + random.below(5), random.pick(&[4, 6, 8]));
-    let keys = random.keys(edition, key_words);
-    let mut sheet = edition.blank_sheet(slots, key_words);
+    let keys = random.keys(key_words);
+    let mut sheet = blank_for(edition, slots, key_words, &keys);
     for _ in 0..20 {
         let slot = random.pick(&[0, 0, slots - 1, slots - 1, slots, usize::MAX]);
         let [sealing, checking] = pair(random, &keys);
@@ -254,7 +319,7 @@ fn list_of_calls(random: &mut Random, edition: Edition, met: &mut Met) {
         );
         // A sheet that a changed byte made unfit or worn is begun anew.
         if !reference::fit(&sheet) && random.below(2) == 0 {
-            sheet = edition.blank_sheet(slots, key_words);
+            sheet = blank_for(edition, slots, key_words, &keys);
         }
         if random.below(20) == 0 {
             sheet[4..8].fill(255);
@@ -287,18 +352,28 @@ fn a_sheet_of_edition_1_is_read_written_cleared_and_listed() {
     assert_eq!(sheet, expected);
     let listing = b"slots 2 key 96 last 2\n0 blank\n1 written 2 5\n";
     assert_eq!(captions::list(&sheet), listing);
-    let blanked = captions::blank(&mut sheet, 2, 6, 0);
+    let blanked = captions::blank(&mut sheet, 2, 6, 0, &sealing, &checking);
     assert_eq!(blanked, Err(Refusal::WrongSpan));
     assert_eq!(sheet, expected);
 }
 
-/// Most often the sheet's own keys; else wrong, twin or other ones.
+/// Most often the sheet's own keys; else wrong, twin or other ones, of the same
+/// class the keys exchanged and those with one bit changed too.
 fn pair(random: &mut Random, keys: &[Vec<u8>; 2]) -> [Vec<u8>; 2] {
-    match random.below(12) {
+    let [sealing, checking] = keys.clone();
+    match random.below(14) {
         0 => [random.key(), random.key()],
-        1 => [keys[0].clone(), keys[0].clone()],
+        1 => [sealing.clone(), sealing],
         2 => [random.bytes(8), random.bytes(8)],
-        _ => keys.clone(),
+        3 => [checking, sealing],
+        4 => {
+            let mut keys = [sealing, checking];
+            let key = &mut keys[random.below(2)];
+            let place = random.below(key.len());
+            key[place] ^= 1 << random.below(8);
+            keys
+        }
+        _ => [sealing, checking],
     }
 }
 
@@ -306,19 +381,23 @@ fn pair(random: &mut Random, keys: &[Vec<u8>; 2]) -> [Vec<u8>; 2] {
 #[test]
 fn dated_reads() {
     let mut random = Random(5);
-    let mut met = Met::default();
+    let mut met: [Met; 3] = Default::default();
     for _ in 0..150 {
-        for edition in [Edition::One, Edition::Two(random.serial())] {
-            dated_reads_of_a_sheet(&mut random, edition, &mut met);
+        for (edition, met) in random.editions().into_iter().zip(&mut met) {
+            dated_reads_of_a_sheet(&mut random, edition, met);
         }
     }
-    met.all_of(&[0, 1, 2, 3, 4, 5, 6, 9, 10, 11, 12]);
+    let [one, two, three] = met;
+    for older in [one, two] {
+        older.all_of(&[0, 1, 2, 3, 4, 5, 6, 9, 10, 11, 12]);
+    }
+    three.all_of(&[0, 1, 2, 3, 4, 5, 6, 9, 10, 11, 12, 14]);
 }
 
 fn dated_reads_of_a_sheet(random: &mut Random, edition: Edition, met: &mut Met) {
     let (slots, key_words) = (1 + random.below(5), random.pick(&[4, 6, 8]));
-    let keys = random.keys(edition, key_words);
-    let mut sheet = edition.blank_sheet(slots, key_words);
+    let keys = random.keys(key_words);
+    let mut sheet = blank_for(edition, slots, key_words, &keys);
     for slot in 0..slots.max(2) - 1 {
         captions::write(&keys[0], &keys[1], &mut sheet, slot, b"Clock").unwrap();
     }

@@ -129,7 +129,7 @@ impl Call {
     fn new() -> Call {
         let (sealing, checking) = (vec![1; 8], vec![2; 8]);
         let mut sheet = vec![0; sheet_len(SLOTS)];
-        blank(&mut sheet, SLOTS, 4, 1).unwrap();
+        blank(&mut sheet, SLOTS, 4, 1, &sealing, &checking).unwrap();
         write(&sealing, &checking, &mut sheet, SLOT, b"Clock").unwrap();
         Call {
             sealing,
@@ -235,10 +235,11 @@ fn a_term_sheet_has_the_sheets_slots_its_length_and_no_day_past_the_last() {
 
 #[test]
 fn the_largest_term_sheet() {
-    let mut sheet = vec![0; sheet_len(256)];
-    blank(&mut sheet, 256, 4, 1).unwrap();
     let mut call = Call::new();
-    write(&call.sealing, &call.checking, &mut sheet, 255, b"Vase").unwrap();
+    let (sealing, checking) = (&call.sealing, &call.checking);
+    let mut sheet = vec![0; sheet_len(256)];
+    blank(&mut sheet, 256, 4, 1, sealing, checking).unwrap();
+    write(sealing, checking, &mut sheet, 255, b"Vase").unwrap();
     let mut terms = vec![(LAST_DAY, 0); 256];
     terms[255] = (OPENING, CLOSING);
     (call.sheet, call.terms, call.slot) = (sheet, terms_of(&terms), 255);
@@ -254,7 +255,7 @@ fn the_largest_term_sheet() {
 type Way = (Refusal, fn(&mut Call));
 
 /// In the order of the tests.
-const FAULTS: [Way; 12] = [
+const FAULTS: [Way; 14] = [
     (Refusal::WrongKey, |call| {
         call.sealing = vec![1; 7];
         call.checking = vec![2; 7];
@@ -276,6 +277,10 @@ const FAULTS: [Way; 12] = [
     }),
     (Refusal::NoSuchDate, |call| call.day = 36525),
     (Refusal::NoSuchDate, |call| call.day = usize::MAX),
+    (Refusal::OtherKeys, |call| call.sealing = vec![3; 8]),
+    (Refusal::OtherKeys, |call| {
+        call.sheet[10] = call.sheet[10].wrapping_add(1)
+    }),
     (Refusal::NoSuchSlot, |call| call.slot = SLOTS),
     (Refusal::Blank, |call| call.slot = 2),
     (Refusal::NotOnShow, |call| call.day = 0),

@@ -30,7 +30,9 @@ struct edition {
 static const struct edition editions[] = {
     {1, CAPTIONS_HEADER_1, CAPTIONS_SHEET_1(SLOTS)},
     {2, CAPTIONS_HEADER, SHEET},
+    {3, CAPTIONS_HEADER, SHEET},
 };
+#define EDITIONS (sizeof editions / sizeof editions[0])
 
 /* One byte more than the longest key; a call takes as many as it is told. */
 static const uint8_t sealing[17] = {0x0d, 0x2a, 0x47, 0x64, 0x81, 0x9e,
@@ -38,6 +40,8 @@ static const uint8_t sealing[17] = {0x0d, 0x2a, 0x47, 0x64, 0x81, 0x9e,
                                     0x69, 0x86, 0xa3, 0xc0, 0xdd};
 static const uint8_t checking[17] = {1,  2,  3,  4,  5,  6,  7,  8, 9,
                                      10, 11, 12, 13, 14, 15, 16, 17};
+/* A checking key of 8 bytes that no sheet here was blanked with. */
+static const uint8_t *const strange = checking + 1;
 
 static int is(captions_answer answer, int number, int length)
 {
@@ -241,59 +245,130 @@ static captions_answer read_as(const uint8_t *sheet, size_t key_len,
                                size_of(sheet), slot, window, CAPTIONS_FIELD));
 }
 
+/* Blanking for keys of that many bytes. */
 static captions_answer blank_as(uint8_t *sheet, size_t sheet_len, size_t slots,
-                                size_t key_words)
+                                size_t key_words, size_t key_len)
 {
-    return captions_blank(sheet, sheet_len, slots, key_words, SERIAL);
+    return captions_blank(sheet, sheet_len, slots, key_words, SERIAL, sealing,
+                          key_len, checking, key_len);
+}
+
+/* Whether blanking is refused with this number whatever is wrong with the spans:
+ * the slots, the sheet's bytes, or nothing. */
+static int blank_refused(int number, uint8_t *sheet, size_t key_words,
+                         const uint8_t *sealing_key, size_t sealing_len,
+                         const uint8_t *checking_key, size_t checking_len)
+{
+    static const size_t spans[][2] = {
+        {SHEET, SLOTS}, {SHEET, 0}, {SHEET, 257}, {SHEET - 1, SLOTS}, {0, 0}};
+    size_t i;
+    int so = 1;
+    for (i = 0; i < sizeof spans / sizeof spans[0]; i++)
+        so = so && refused(captions_blank(sheet, spans[i][0], spans[i][1],
+                                          key_words, SERIAL, sealing_key,
+                                          sealing_len, checking_key,
+                                          checking_len),
+                           number);
+    return so;
+}
+
+/* In the order of the tests; what stands later in it is wrong too. */
+static void blanking_refusals(void)
+{
+    uint8_t sheet[SHEET + 1];
+    memset(sheet, UNTOUCHED, sizeof sheet);
+    CHECK(blank_refused(CAPTIONS_WRONG_KEY, sheet, 5, sealing, 8, sealing, 8));
+    CHECK(blank_refused(CAPTIONS_WRONG_KEY, sheet, 0, sealing, 12, checking,
+                        12));
+    CHECK(blank_refused(CAPTIONS_WRONG_KEY, sheet, (size_t)-1, sealing, 8,
+                        checking, 8));
+    CHECK(blank_refused(CAPTIONS_WRONG_KEY, sheet, 4, sealing, 7, sealing, 7));
+    CHECK(blank_refused(CAPTIONS_WRONG_KEY, sheet, 4, sealing, 17, checking,
+                        17));
+    CHECK(blank_refused(CAPTIONS_WRONG_KEY, sheet, 4, sealing, 8, checking,
+                        12));
+    CHECK(blank_refused(CAPTIONS_WRONG_KEY, sheet, 4, sealing, 0, checking,
+                        0));
+    CHECK(blank_refused(CAPTIONS_TWIN_KEYS, sheet, 4, sealing, 8, sealing, 8));
+    CHECK(blank_refused(CAPTIONS_TWIN_KEYS, sheet, 4, sealing, 12, sealing,
+                        12));
+    CHECK(refused(blank_as(sheet, CAPTIONS_HEADER, 0, 4, 12),
+                  CAPTIONS_WRONG_SPAN));
+    CHECK(refused(blank_as(sheet, SHEET, 257, 4, 12), CAPTIONS_WRONG_SPAN));
+    CHECK(refused(blank_as(sheet, SHEET, (size_t)-1, 4, 8),
+                  CAPTIONS_WRONG_SPAN));
+    CHECK(refused(blank_as(sheet, SHEET - 1, SLOTS, 4, 8),
+                  CAPTIONS_WRONG_SPAN));
+    CHECK(refused(blank_as(sheet, SHEET + 1, SLOTS, 4, 12),
+                  CAPTIONS_WRONG_SPAN));
+    CHECK(refused(blank_as(sheet, CAPTIONS_SHEET_1(SLOTS), SLOTS, 4, 8),
+                  CAPTIONS_WRONG_SPAN));
+    CHECK(refused(blank_as(sheet, SHEET, SLOTS, 4, 12),
+                  CAPTIONS_OTHER_KEY_CLASS));
+    CHECK(refused(blank_as(sheet, SHEET, SLOTS, 8, 12),
+                  CAPTIONS_OTHER_KEY_CLASS));
+    CHECK(refused(blank_as(sheet, SHEET, SLOTS, 6, 8),
+                  CAPTIONS_OTHER_KEY_CLASS));
+    CHECK(all(sheet, sizeof sheet, UNTOUCHED));
+}
+
+/* The header that blanking makes: the mark is the first six bytes of the CMAC of
+ * slots, key words, edition, serial and two zero bytes, sealed. */
+static void make_header(uint8_t *header, size_t key_words, uint16_t serial)
+{
+    uint8_t plain_block[CAPTIONS_BLOCK] = {0, SLOTS, 0, 3}, mac[CAPTIONS_CHECK];
+    uint8_t sealed[CAPTIONS_BLOCK];
+    size_t key_len = 2 * key_words;
+    plain_block[2] = (uint8_t)key_words;
+    plain_block[4] = (uint8_t)(serial >> 8);
+    plain_block[5] = (uint8_t)serial;
+    CHECK(accepted(captions_encrypt_block(sealing, key_len, plain_block, 8, 0,
+                                          sealed, 8)));
+    CHECK(accepted(captions_cmac(checking, key_len, sealed, 8, mac, 8)));
+    memset(header, 0, CAPTIONS_HEADER);
+    memcpy(header, plain_block, 4);
+    memcpy(header + 8, plain_block + 4, 2);
+    memcpy(header + 10, mac, 6);
 }
 
 static void blanking(void)
 {
     static const uint16_t serials[] = {0, 1, 255, 256, 65535, SERIAL};
-    uint8_t sheet[SHEET + 1];
-    size_t i;
+    uint8_t sheet[SHEET + 1], header[CAPTIONS_HEADER];
+    size_t i, key_words;
     memset(sheet, UNTOUCHED, sizeof sheet);
-    CHECK(refused(blank_as(sheet, SHEET, SLOTS, 5), CAPTIONS_WRONG_KEY));
-    CHECK(refused(blank_as(sheet, 0, 0, 0), CAPTIONS_WRONG_KEY));
-    CHECK(refused(blank_as(sheet, CAPTIONS_HEADER, 0, 4),
-                  CAPTIONS_WRONG_SPAN));
-    CHECK(refused(blank_as(sheet, SHEET, 257, 4), CAPTIONS_WRONG_SPAN));
-    CHECK(refused(blank_as(sheet, SHEET, (size_t)-1, 4),
-                  CAPTIONS_WRONG_SPAN));
-    CHECK(refused(blank_as(sheet, SHEET - 1, SLOTS, 4),
-                  CAPTIONS_WRONG_SPAN));
-    CHECK(refused(blank_as(sheet, SHEET + 1, SLOTS, 4),
-                  CAPTIONS_WRONG_SPAN));
-    CHECK(refused(blank_as(sheet, CAPTIONS_SHEET_1(SLOTS), SLOTS, 4),
-                  CAPTIONS_WRONG_SPAN));
-    CHECK(all(sheet, sizeof sheet, UNTOUCHED));
-    /* Each serial over the bytes of the sheet before. */
-    for (i = 0; i < sizeof serials / sizeof serials[0]; i++) {
-        uint8_t header[CAPTIONS_HEADER] = {0, SLOTS, 6, 2};
-        header[8] = (uint8_t)(serials[i] >> 8);
-        header[9] = (uint8_t)serials[i];
-        CHECK(accepted(captions_blank(sheet, SHEET, SLOTS, 6, serials[i])));
-        CHECK(same(sheet, header, CAPTIONS_HEADER));
-        CHECK(all(sheet + CAPTIONS_HEADER, SHEET - CAPTIONS_HEADER, 0));
-        CHECK(sheet[SHEET] == UNTOUCHED);
-        CHECK(accepted(write_as(sheet, 12, 0, "Vase", 4)));
-    }
+    /* Each class and serial over the bytes of the sheet before. */
+    for (key_words = 4; key_words <= 8; key_words += 2)
+        for (i = 0; i < sizeof serials / sizeof serials[0]; i++) {
+            make_header(header, key_words, serials[i]);
+            CHECK(accepted(captions_blank(sheet, SHEET, SLOTS, key_words,
+                                          serials[i], sealing, 2 * key_words,
+                                          checking, 2 * key_words)));
+            CHECK(same(sheet, header, CAPTIONS_HEADER));
+            CHECK(all(sheet + CAPTIONS_HEADER, SHEET - CAPTIONS_HEADER, 0));
+            CHECK(sheet[SHEET] == UNTOUCHED);
+            CHECK(accepted(write_as(sheet, 2 * key_words, 0, "Vase", 4)));
+        }
 }
 
 /* A blank sheet of an edition; laid out here where no call makes it. */
 static void make_blank(const struct edition *edition, uint8_t *sheet,
                        size_t key_words)
 {
-    if (edition->number == 2) {
-        CHECK(accepted(blank_as(sheet, SHEET, SLOTS, key_words)));
+    if (edition->number == 3) {
+        CHECK(accepted(
+            blank_as(sheet, SHEET, SLOTS, key_words, 2 * key_words)));
         return;
     }
     memset(sheet, 0, edition->size);
     sheet[1] = SLOTS;
     sheet[2] = (uint8_t)key_words;
     sheet[3] = edition->number;
+    if (edition->number == 2) {
+        sheet[8] = SERIAL >> 8;
+        sheet[9] = SERIAL & 0xff;
+    }
 }
-
 
 /* A caption goes in and comes out, at each key length. */
 static void writing_and_reading(const struct edition *edition, size_t key_len)
@@ -356,7 +431,7 @@ static void start_block(const struct edition *edition)
     uint8_t sheet[SHEET], opened[CAPTIONS_BLOCK];
     size_t i;
     make_sheet(edition, sheet);
-    if (edition->number == 2) {
+    if (edition->number != 1) {
         plain[6] = SERIAL >> 8;
         plain[7] = SERIAL & 0xff;
     }
@@ -462,14 +537,57 @@ static void read_refusals(const struct edition *edition)
                        size, SLOTS, 192));
     CHECK(read_refused(CAPTIONS_BLANK, sealing, 8, checking, 8, sheet, size,
                        0, 192));
-    CHECK(read_refused(CAPTIONS_ALTERED, checking, 8, sealing, 8, sheet, size,
-                       1, 192));
     sheet[field] ^= 1;
     CHECK(read_refused(CAPTIONS_ALTERED, sealing, 8, checking, 8, sheet, size,
                        1, 192));
     sheet[field] ^= 1;
     CHECK(is(read_as(sheet, 8, 1, window), 0, 5));
     CHECK(memcmp(window, "Clock", 5) == 0);
+}
+
+/* One bit of a key of 8 bytes flipped. */
+static void flip(uint8_t *flipped, const uint8_t *key, size_t bit)
+{
+    memcpy(flipped, key, 8);
+    flipped[bit / 8] ^= (uint8_t)(1 << bit % 8);
+}
+
+/* What a stranger's read and write of slot 1, and of no slot, answer: from
+ * edition 3 on 14; before that the caption is altered, the write accepted. */
+static int strangers(const struct edition *edition, const uint8_t *first,
+                     const uint8_t *second)
+{
+    uint8_t sheet[SHEET], before[SHEET];
+    int marked = edition->number == 3;
+    captions_answer written;
+    make_sheet(edition, sheet);
+    memcpy(before, sheet, edition->size);
+    written = plain(captions_write(first, 8, second, 8, sheet, edition->size,
+                                   1, sealing, 1));
+    return is(written, marked ? CAPTIONS_OTHER_KEYS : CAPTIONS_ACCEPTED, 0) &&
+           same(sheet, before, edition->size) == marked &&
+           read_refused(marked ? CAPTIONS_OTHER_KEYS : CAPTIONS_ALTERED, first,
+                        8, second, 8, before, edition->size, 1, 192) &&
+           read_refused(marked ? CAPTIONS_OTHER_KEYS : CAPTIONS_NO_SUCH_SLOT,
+                        first, 8, second, 8, before, edition->size,
+                        (size_t)-1, 192);
+}
+
+/* Other keys of the right length: exchanged, one of them another, and every one
+ * that differs in one bit. */
+static void other_keys(const struct edition *edition)
+{
+    uint8_t flipped[8];
+    size_t bit;
+    CHECK(strangers(edition, checking, sealing));
+    CHECK(strangers(edition, sealing, strange));
+    CHECK(strangers(edition, strange, checking));
+    for (bit = 0; bit < 64; bit++) {
+        flip(flipped, sealing, bit);
+        CHECK(strangers(edition, flipped, checking));
+        flip(flipped, checking, bit);
+        CHECK(strangers(edition, sealing, flipped));
+    }
 }
 
 /* ---- Days and terms ---- */
@@ -638,10 +756,14 @@ static void dated_read_refusals(const struct edition *edition)
     }
     CHECK(dated_refused(CAPTIONS_OTHER_KEY_CLASS, 12, checking, sheet, size,
                         terms, TERMS, SLOTS, 36525, 192));
-    CHECK(dated_refused(CAPTIONS_NO_SUCH_DATE, 8, checking, sheet, size,
+    CHECK(dated_refused(CAPTIONS_NO_SUCH_DATE, 8, strange, sheet, size,
                         terms, TERMS, SLOTS, 36525, 192));
     CHECK(dated_refused(CAPTIONS_NO_SUCH_DATE, 8, checking, sheet, size,
                         terms, TERMS, 1, (size_t)-1, 192));
+    CHECK(dated_refused(edition->number == 3 ? CAPTIONS_OTHER_KEYS
+                                             : CAPTIONS_NO_SUCH_SLOT,
+                        8, strange, sheet, size, terms, TERMS, SLOTS, OPENING,
+                        192));
     CHECK(dated_refused(CAPTIONS_NO_SUCH_SLOT, 8, checking, sheet, size,
                         terms, TERMS, SLOTS, OPENING, 192));
     CHECK(dated_refused(CAPTIONS_BLANK, 8, checking, sheet, size, terms,
@@ -674,25 +796,56 @@ static int unfit(const uint8_t *bytes, size_t size)
            same(sheet, bytes, size);
 }
 
-/* Byte 3 at every value with either edition's size, and each zero byte set. */
+/* Whether every call that takes keys finds these bytes another pair's sheet and
+ * leaves them so, while a clear and a listing take them as they are. */
+static int others(const uint8_t *bytes)
+{
+    uint8_t sheet[SHEET], terms[TERMS], out[CAPTIONS_LISTING];
+    memcpy(sheet, bytes, SHEET);
+    make_terms(terms);
+    return read_refused(CAPTIONS_OTHER_KEYS, sealing, 8, checking, 8, sheet,
+                        SHEET, 1, 192) &&
+           dated_refused(CAPTIONS_OTHER_KEYS, 8, checking, sheet, SHEET, terms,
+                         TERMS, 1, OPENING, 192) &&
+           refused(write_as(sheet, 8, 1, "x", 1), CAPTIONS_OTHER_KEYS) &&
+           same(sheet, bytes, SHEET) &&
+           captions_list(sheet, SHEET, out, sizeof out) > 6 &&
+           accepted(captions_clear(sheet, SHEET, 1));
+}
+
+/* Byte 3 at every value with each size that a sheet has. A sheet of edition 2
+ * that is called one of edition 3 is fit: its zeros are nobody's mark. */
+static void every_edition_byte(const struct edition *edition, uint8_t *sheet)
+{
+    unsigned value;
+    size_t i;
+    for (value = 0; value < 256; value++)
+        for (i = 0; i < 2; i++) {
+            size_t size = editions[i].size;
+            sheet[3] = (uint8_t)value;
+            CHECK((value == edition->number && size == edition->size) ||
+                  (edition->number == 2 && value == 3 && size == SHEET
+                       ? others(sheet)
+                       : unfit(sheet, size)));
+        }
+    sheet[3] = edition->number;
+}
+
+/* Besides byte 3, each zero byte of edition 2 set, and each bit of edition 3's
+ * mark flipped, which breaks no rule. */
 static void edition_rules(const struct edition *edition)
 {
     uint8_t sheet[SHEET] = {0}, window[CAPTIONS_FIELD];
-    unsigned value;
     size_t i;
+    int bit;
     make_sheet(edition, sheet);
-    for (value = 0; value < 256; value++)
-        for (i = 0; i < 2; i++) {
-            sheet[3] = (uint8_t)value;
-            CHECK((sheet[3] == edition->number && &editions[i] == edition) ||
-                  unfit(sheet, editions[i].size));
+    every_edition_byte(edition, sheet);
+    for (i = CAPTIONS_HEADER - 6; i < edition->header; i++)
+        for (bit = 1; bit < 256; bit *= 2) {
+            sheet[i] ^= (uint8_t)bit;
+            CHECK(edition->number == 2 ? unfit(sheet, SHEET) : others(sheet));
+            sheet[i] ^= (uint8_t)bit;
         }
-    sheet[3] = edition->number;
-    for (i = CAPTIONS_HEADER - 6; i < edition->header; i++) {
-        sheet[i] = 1;
-        CHECK(unfit(sheet, edition->size));
-        sheet[i] = 0;
-    }
     CHECK(is(read_as(sheet, 8, 1, window), 0, 5));
 }
 
@@ -723,7 +876,7 @@ static void listing(void)
     uint8_t sheet[SHEET], two[CAPTIONS_SHEET_1(2)] = {0, 2, 4, 1};
     size_t i, slot;
     listed(two, sizeof two, "slots 2 key 64 last 0\n0 blank\n1 blank\n");
-    for (i = 0; i < 2; i++) {
+    for (i = 0; i < EDITIONS; i++) {
         make_sheet(&editions[i], sheet);
         listed(sheet, editions[i].size,
                "slots 3 key 64 last 1\n0 blank\n1 written 1 5\n2 blank\n");
@@ -732,7 +885,7 @@ static void listing(void)
     }
 
     /* Every number of the longest listing has all its digits. */
-    CHECK(accepted(blank_as(largest, CAPTIONS_SHEET(256), 256, 8)));
+    CHECK(accepted(blank_as(largest, CAPTIONS_SHEET(256), 256, 8, 16)));
     memset(largest + 4, 0xff, 4);
     for (slot = 0; slot < CAPTIONS_SLOTS; slot++) {
         uint8_t *mark = largest + CAPTIONS_HEADER + CAPTIONS_MARK * slot;
@@ -804,10 +957,14 @@ static void pointing(const struct edition *edition)
     CHECK(broken_at(sheet, size, 2, 5, CAPTIONS_RULE_KEY_WORDS, 0, 0));
     CHECK(broken_at(sheet, size, 3, 9, CAPTIONS_RULE_EDITION, 0, 0));
     for (i = CAPTIONS_HEADER - 6; i < edition->header; i++) {
-        CHECK(broken_at(sheet, size, i, 1, CAPTIONS_RULE_HEADER_BYTE, 0,
-                        (int)i));
-        CHECK(broken_at(sheet, i + 1, i, 1, CAPTIONS_RULE_HEADER_BYTE, 0,
-                        (int)i));
+        if (edition->number == 2) {
+            CHECK(broken_at(sheet, size, i, 1, CAPTIONS_RULE_HEADER_BYTE, 0,
+                            (int)i));
+            CHECK(broken_at(sheet, i + 1, i, 1, CAPTIONS_RULE_HEADER_BYTE, 0,
+                            (int)i));
+        } else {
+            CHECK(broken_at(sheet, i + 1, i, 1, CAPTIONS_RULE_LENGTH, 0, 0));
+        }
         CHECK(broken_at(sheet, i, i, 1, CAPTIONS_RULE_LENGTH, 0, 0));
     }
     CHECK(broken_at(sheet, size, mark, 1, CAPTIONS_RULE_NUMBER, 1, 0));
@@ -825,7 +982,7 @@ static void pointing(const struct edition *edition)
 static void words(void)
 {
     static const char *const word[] = CAPTIONS_WORDS;
-    CHECK(sizeof word / sizeof word[0] == CAPTIONS_NO_SUCH_ROUND + 1);
+    CHECK(sizeof word / sizeof word[0] == CAPTIONS_OTHER_KEYS + 1);
     CHECK(strcmp(word[CAPTIONS_WRONG_KEY], "wrong key") == 0);
     CHECK(strcmp(word[CAPTIONS_UNFIT_SHEET], "unfit sheet") == 0);
     CHECK(strcmp(word[CAPTIONS_WORN], "worn") == 0);
@@ -833,6 +990,7 @@ static void words(void)
     CHECK(strcmp(word[CAPTIONS_NO_SUCH_DATE], "no such date") == 0);
     CHECK(strcmp(word[CAPTIONS_NOT_ON_SHOW], "not on show") == 0);
     CHECK(strcmp(word[CAPTIONS_NO_SUCH_ROUND], "no such round") == 0);
+    CHECK(strcmp(word[CAPTIONS_OTHER_KEYS], "other keys") == 0);
     CHECK(sizeof(captions_answer) == 4);
     CHECK(offsetof(captions_answer, length) == 2);
     CHECK(sizeof(captions_pointed) == 8);
@@ -857,6 +1015,7 @@ static void sheets_of(const struct edition *edition)
     write_refusals(edition);
     clear_refusals(edition);
     read_refusals(edition);
+    other_keys(edition);
     dated_reads(edition);
     dated_read_refusals(edition);
     edition_rules(edition);
@@ -865,6 +1024,7 @@ static void sheets_of(const struct edition *edition)
 
 int main(void)
 {
+    size_t i;
     blocks_by_every_path();
     block_refusals(captions_encrypt_block);
     block_refusals(captions_decrypt_block);
@@ -873,8 +1033,9 @@ int main(void)
     days_and_dates();
     no_such_dates();
     blanking();
-    sheets_of(&editions[0]);
-    sheets_of(&editions[1]);
+    blanking_refusals();
+    for (i = 0; i < EDITIONS; i++)
+        sheets_of(&editions[i]);
     listing();
     words();
     if (failures != 0) {

@@ -1,6 +1,6 @@
-/* Prints what `reference vectors blocks`, `cmac`, `bench` or `sheet` prints,
- * each line made by the library's own calls, so that the two texts can be
- * compared. */
+/* Prints what `reference vectors blocks`, `cmac`, `bench`, `marks` or `sheet`
+ * prints, each line made by the library's own calls, so that the two texts can
+ * be compared. */
 #include "captions.h"
 
 #include <stdio.h>
@@ -91,12 +91,63 @@ static void bench(void)
         }
 }
 
-/* ---- The list of calls on a sheet ---- */
-
 struct keys {
     size_t length;
     uint8_t sealing[16], checking[16];
 };
+
+/* The pair of a sheet of that class. */
+static void make_keys(struct keys *keys, size_t words)
+{
+    memset(keys, 0, sizeof *keys);
+    keys->length = 2 * words;
+    make_key(keys->sealing, words, words);
+    make_key(keys->checking, words, words + 1);
+}
+
+static captions_answer blank(uint8_t *sheet, size_t slots, size_t words,
+                             size_t serial, const struct keys *keys)
+{
+    return captions_blank(sheet, CAPTIONS_SHEET(slots), slots, words,
+                          (uint16_t)serial, keys->sealing, keys->length,
+                          keys->checking, keys->length);
+}
+
+static void print_mark(size_t words, size_t slots, size_t serial)
+{
+    static uint8_t sheet[CAPTIONS_SHEET(CAPTIONS_SLOTS)];
+    uint8_t plain[8] = {0}, sealed[8], mac[8];
+    struct keys keys;
+    make_keys(&keys, words);
+    blank(sheet, slots, words, serial, &keys);
+    /* Slot count, class and edition, then the serial. */
+    memcpy(plain, sheet, 4);
+    memcpy(plain + 4, sheet + 8, 2);
+    captions_encrypt_block(keys.sealing, keys.length, plain, 8, 0, sealed, 8);
+    captions_cmac(keys.checking, keys.length, sealed, 8, mac, 8);
+    printf("%lu %lu %lu ", (unsigned long)words, (unsigned long)slots,
+           (unsigned long)serial);
+    print_hex(keys.sealing, keys.length, " ");
+    print_hex(keys.checking, keys.length, " ");
+    print_hex(sealed, 8, " ");
+    print_hex(mac, 8, " ");
+    print_hex(sheet + 10, 6, "\n");
+}
+
+static void marks(void)
+{
+    static const size_t slots[] = {1, 2, 255, 256};
+    size_t words, i, j;
+    for (words = 4; words <= 8; words += 2)
+        for (i = 0; i < sizeof slots / sizeof slots[0]; i++) {
+            size_t serials[5] = {0, 1, 256, 0, 65535};
+            serials[3] = 0x5a00 + words;
+            for (j = 0; j < 5; j++)
+                print_mark(words, slots[i], serials[j]);
+        }
+}
+
+/* ---- The list of calls on a sheet ---- */
 
 static void print_call(const char *call, captions_answer answer,
                        const struct keys *keys, const uint8_t *sheet)
@@ -169,10 +220,7 @@ static void list_of_calls(size_t words, const char *origin,
 {
     uint8_t seventeen[17], longest[193];
     struct keys keys;
-    memset(&keys, 0, sizeof keys);
-    keys.length = 2 * words;
-    make_key(keys.sealing, words, words);
-    make_key(keys.checking, words, words + 1);
+    make_keys(&keys, words);
     ramp(seventeen, sizeof seventeen, 53, 7);
     ramp(longest, sizeof longest, 31, 5);
 
@@ -193,19 +241,24 @@ static void list_of_calls(size_t words, const char *origin,
 static void on_blanked_sheet(size_t words)
 {
     uint8_t sheet[CAPTIONS_SHEET(3)];
-    captions_answer answer;
+    struct keys keys;
+    make_keys(&keys, words);
     memset(sheet, 0xff, sizeof sheet);
-    answer = captions_blank(sheet, sizeof sheet, 3, words,
-                            (uint16_t)(0x5a00 + words));
-    list_of_calls(words, "blank", answer, sheet);
+    list_of_calls(words, "blank",
+                  blank(sheet, 3, words, 0x5a00 + words, &keys), sheet);
 }
 
-/* A blank sheet of edition 1, which no call makes. */
-static void on_old_sheet(size_t words)
+/* A blank sheet of an older edition, which no call makes. */
+static void on_old_sheet(size_t words, uint8_t edition)
 {
-    uint8_t sheet[CAPTIONS_SHEET_1(3)] = {0, 3, 0, 1};
+    uint8_t sheet[CAPTIONS_SHEET(3)] = {0, 3};
     captions_answer none = {0, 0};
     sheet[2] = (uint8_t)words;
+    sheet[3] = edition;
+    if (edition == 2) {
+        sheet[8] = 0x5a;
+        sheet[9] = (uint8_t)words;
+    }
     list_of_calls(words, "old", none, sheet);
 }
 
@@ -214,7 +267,8 @@ static void sheets(void)
     size_t words;
     for (words = 4; words <= 8; words += 2) {
         on_blanked_sheet(words);
-        on_old_sheet(words);
+        on_old_sheet(words, 2);
+        on_old_sheet(words, 1);
     }
 }
 
@@ -227,10 +281,12 @@ int main(int count, char **words)
         cmacs();
     } else if (strcmp(kind, "bench") == 0) {
         bench();
+    } else if (strcmp(kind, "marks") == 0) {
+        marks();
     } else if (strcmp(kind, "sheet") == 0) {
         sheets();
     } else {
-        fputs("usage: vectors blocks|cmac|bench|sheet\n", stderr);
+        fputs("usage: vectors blocks|cmac|bench|marks|sheet\n", stderr);
         return 64;
     }
     return fflush(stdout) != 0;

@@ -87,7 +87,7 @@ fn sheet_and_changes(scratch: &Scratch) -> (std::path::PathBuf, Vec<Vec<OsString
         words!["write", file, "0", keys, "--text", "Table"].to_vec(),
         words!["import", file, keys, "--file", table].to_vec(),
         words!["clear", file, "0"].to_vec(),
-        words!["blank", file, "2", "64", "1", "--force"].to_vec(),
+        words!["blank", file, "2", "64", "1", keys, "--force"].to_vec(),
     ];
     (file, changes)
 }
@@ -193,8 +193,9 @@ fn a_folders_default_list_is_not_taken_on() {
         assert_eq!(mode(&file), 0o660);
     }
     // A new sheet has what the folder gives, and new keys are the owner's alone.
-    run(&words!["blank", scratch.join("new"), "1", "64", "1"]).done();
-    assert!(get(&scratch.join("new"), ACCESS).is_some());
+    let (new, keys) = (scratch.join("new"), shared_keys(8));
+    run(&words!["blank", new, "1", "64", "1", keys]).done();
+    assert!(get(&new, ACCESS).is_some());
     run(&words!["keys", scratch.join("new.keys"), "64"]).done();
     assert_eq!(mode(&scratch.join("new.keys")), 0o600);
 }

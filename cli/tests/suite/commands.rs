@@ -16,7 +16,8 @@ fn blank_makes_the_second_programs_sheet() {
         for (slots, serial) in [1, 2, 17, 255, 256].into_iter().zip(Edition::SERIALS) {
             let file = scratch.join(format!("{slots}-{bits}.sheet"));
             let [n, number] = [slots.to_string(), serial.to_string()];
-            run(&words!["blank", file, n, bits, number]).done();
+            let keys = shared_keys(key_len);
+            run(&words!["blank", file, n, bits, number, keys]).done();
             let expected = blank_sheet_with(slots, key_len / 2, serial);
             assert_eq!(fs::read(file).unwrap(), expected);
         }
@@ -58,16 +59,22 @@ fn write_stores_what_the_second_program_stores() {
     }
 }
 
-/// Sheets of edition 1 are there from before; no command makes one.
+/// Sheets of editions 1 and 2 are there from before; no command makes one.
 #[test]
-fn a_sheet_of_edition_1_is_read_written_cleared_and_listed() {
+fn a_sheet_of_an_older_edition_is_read_written_cleared_and_listed() {
+    for edition in [Edition::One, Edition::Two(1)] {
+        read_written_cleared_and_listed(edition);
+    }
+}
+
+fn read_written_cleared_and_listed(edition: Edition) {
     let scratch = Scratch::new();
     let (file, keys, terms) = (
         scratch.join("sheet"),
         scratch.keys(8),
         scratch.join("terms"),
     );
-    let sheet = written(&Edition::One.blank_sheet(3, 4), 8, 1, b"Clock");
+    let sheet = written(&edition.blank_sheet(3, 4), 8, 1, b"Clock");
     fs::write(&file, &sheet).unwrap();
     fs::write(&terms, term_sheet(&[(1, 0), (9617, 9800), (1, 0)])).unwrap();
     run(&words!["read", file, "1", keys]).printed(b"Clock");
@@ -124,10 +131,11 @@ fn list_prints_the_second_programs_listing() {
     let scratch = Scratch::new();
     let file = scratch.join("sheet");
     let sheet = written(&blank_sheet(3, 8), 16, 1, b"Clock");
-    let [old, full] = Edition::ALL.map(|edition| edition.blank_sheet(256, 6));
+    let [oldest, old, full] = Edition::ALL.map(|edition| edition.blank_sheet(256, 6));
     let longer = [&full[..], b"\0"].concat();
     for sheet in [
         &sheet[..],
+        &oldest,
         &old,
         &full,
         &longer,
@@ -200,7 +208,7 @@ fn names_are_taken_from_the_working_folder() {
         command.args(words).current_dir(scratch.path());
         run_command(command, stdin)
     };
-    at(&["blank", "sheet", "1", "64", "1"], b"").done();
+    at(&["blank", "sheet", "1", "64", "1", "./keys-8"], b"").done();
     at(&["write", "./sheet", "0", "keys-8"], b"Vase").done();
     at(&["read", "sheet", "0", "../x/../keys-8"], b"").failed(74, "../x/../keys-8");
     at(&["read", "sheet", "0", "keys-8"], b"").printed(b"Vase");
@@ -213,7 +221,7 @@ fn a_name_that_is_not_text_will_do() {
     let scratch = Scratch::new();
     let keys = scratch.keys(8);
     let file = scratch.join(std::ffi::OsStr::from_bytes(b"sheet-\xff"));
-    run(&words!["blank", file, "1", "64", "1"]).done();
+    run(&words!["blank", file, "1", "64", "1", keys]).done();
     run_with(&words!["write", file, "0", keys], b"Vase").done();
     run(&words!["read", file, "0", keys]).printed(b"Vase");
 }

@@ -75,12 +75,12 @@ impl Place {
                 old: Some(old.clone()),
             },
             Change {
-                words: words!["blank", file, "20", "96", "1", "--force"].to_vec(),
+                words: words!["blank", file, "20", "96", "1", shared_keys(12), "--force"].to_vec(),
                 new: blank_sheet(20, 6),
                 old: Some(old),
             },
             Change {
-                words: words!["blank", file, "20", "96", "1"].to_vec(),
+                words: words!["blank", file, "20", "96", "1", shared_keys(12)].to_vec(),
                 new: blank_sheet(20, 6),
                 old: None,
             },

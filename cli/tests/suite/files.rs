@@ -30,7 +30,8 @@ fn a_file_that_is_not_there_stays_so() {
         scratch.join("folder/sheet"),
         "1",
         "64",
-        "1"
+        "1",
+        keys
     ])
     .failed(74, missing);
     assert_eq!(scratch.names(), ["keys-8"]);
@@ -53,8 +54,8 @@ fn a_path_under_a_file() {
     let under = file.join("sheet");
     let message = "Not a directory";
     all_fail(&under, &keys, message, message);
-    run(&words!["blank", under, "1", "64", "1"]).failed(74, message);
-    run(&words!["blank", under, "1", "64", "1", "--force"]).failed(74, message);
+    run(&words!["blank", under, "1", "64", "1", keys]).failed(74, message);
+    run(&words!["blank", under, "1", "64", "1", keys, "--force"]).failed(74, message);
     assert_eq!(fs::read(file).unwrap(), blank_sheet(1, 4));
 }
 
@@ -64,9 +65,9 @@ fn a_folder_is_no_sheet() {
     let (folder, keys) = (scratch.join("folder"), scratch.keys(8));
     fs::create_dir(&folder).unwrap();
     all_fail(&folder, &keys, "Is a directory", "not a regular file");
-    run(&words!["blank", folder, "1", "64", "1"]).failed(74, "not a regular file");
-    run(&words!["blank", folder, "1", "64", "1", "--force"]).failed(74, "not a regular file");
-    run(&["blank", "/", "1", "64", "1", "--force"]).failed(74, "not a regular file");
+    run(&words!["blank", folder, "1", "64", "1", keys]).failed(74, "not a regular file");
+    run(&words!["blank", folder, "1", "64", "1", keys, "--force"]).failed(74, "not a regular file");
+    run(&words!["blank", "/", "1", "64", "1", keys, "--force"]).failed(74, "not a regular file");
     assert!(folder.is_dir());
 }
 
@@ -74,6 +75,7 @@ fn a_folder_is_no_sheet() {
 #[test]
 fn a_pipe_is_listed_and_not_replaced() {
     let scratch = Scratch::new();
+    let keys = shared_keys(8);
     let pipe = scratch.join("pipe");
     assert!(Command::new("mkfifo")
         .arg(&pipe)
@@ -81,7 +83,7 @@ fn a_pipe_is_listed_and_not_replaced() {
         .unwrap()
         .success());
     run(&words!["clear", pipe, "0"]).failed(74, "not a regular file");
-    run(&words!["blank", pipe, "1", "64", "1", "--force"]).failed(74, "not a regular file");
+    run(&words!["blank", pipe, "1", "64", "1", keys, "--force"]).failed(74, "not a regular file");
     let writer = {
         let pipe = pipe.clone();
         std::thread::spawn(move || fs::write(pipe, blank_sheet(1, 4)).unwrap())
@@ -113,8 +115,8 @@ fn a_read_only_folder() {
     let run = |words: &[std::ffi::OsString]| unprivileged_run(&scratch, words, b"Vase");
     run(&words!["write", file, "0", keys]).failed(74, denied);
     run(&words!["clear", file, "0"]).failed(74, denied);
-    run(&words!["blank", file, "1", "64", "1", "--force"]).failed(74, denied);
-    run(&words!["blank", scratch.join("new"), "1", "64", "1"]).failed(74, denied);
+    run(&words!["blank", file, "1", "64", "1", keys, "--force"]).failed(74, denied);
+    run(&words!["blank", scratch.join("new"), "1", "64", "1", keys]).failed(74, denied);
     run(&words!["keys", scratch.join("new"), "64"]).failed(74, denied);
     run(&words!["list", file]).printed(b"slots 1 key 64 last 1\n0 written 1 5\n");
     assert_eq!(fs::read(&file).unwrap(), sheet);
@@ -132,7 +134,7 @@ fn a_write_protected_file_in_a_folder_that_can_be_written() {
     let run = |words: &[std::ffi::OsString]| unprivileged_run(&scratch, words, b"Vase");
     run(&words!["write", file, "0", keys]).failed(74, "Permission denied");
     run(&words!["clear", file, "0"]).failed(74, "Permission denied");
-    run(&words!["blank", file, "1", "64", "1", "--force"]).failed(74, "Permission denied");
+    run(&words!["blank", file, "1", "64", "1", keys, "--force"]).failed(74, "Permission denied");
     assert_eq!(fs::read(&file).unwrap(), blank_sheet(1, 4));
 }
 
@@ -189,9 +191,9 @@ fn the_mode_is_kept() {
         assert_eq!(mode(&file), bits);
         run(&words!["clear", file, "0"]).done();
         assert_eq!(mode(&file), bits);
-        run(&words!["blank", file, "2", "64", "1", "--force"]).done();
+        run(&words!["blank", file, "2", "64", "1", keys, "--force"]).done();
         assert_eq!(mode(&file), bits);
-        run(&words!["blank", file, "1", "64", "1", "--force"]).done();
+        run(&words!["blank", file, "1", "64", "1", keys, "--force"]).done();
     }
 }
 
@@ -201,8 +203,9 @@ fn a_new_sheet_has_the_mode_that_the_shell_sets() {
     for (umask, bits) in [("000", 0o666), ("022", 0o644), ("077", 0o600)] {
         let file = scratch.join(format!("sheet-{umask}"));
         let mut command = Command::new("sh");
-        let line = format!("umask {umask}; exec \"$0\" blank \"$1\" 1 64 1");
-        command.args(["-c", &line, PROGRAM]).arg(&file);
+        let line = format!("umask {umask}; exec \"$0\" blank \"$1\" 1 64 1 \"$2\"");
+        command.args(["-c", &line, PROGRAM]);
+        command.args([&file, &shared_keys(8)]);
         run_command(command, b"").done();
         assert_eq!(mode(&file), bits);
     }
@@ -211,13 +214,14 @@ fn a_new_sheet_has_the_mode_that_the_shell_sets() {
 #[test]
 fn blank_leaves_an_existing_file_alone_unless_forced() {
     let scratch = Scratch::new();
+    let keys = shared_keys(8);
     let file = scratch.join("sheet");
     let sheet = written(&blank_sheet(2, 4), 8, 1, b"Clock");
     for content in [&sheet[..], b"", b"a letter, by mistake"] {
         fs::write(&file, content).unwrap();
-        run(&words!["blank", file, "2", "64", "1"]).failed(74, "exists; --force blanks it");
+        run(&words!["blank", file, "2", "64", "1", keys]).failed(74, "exists; --force blanks it");
         assert_eq!(fs::read(&file).unwrap(), content);
-        run(&words!["blank", file, "--force", "2", "64", "1"]).done();
+        run(&words!["blank", file, "--force", "2", "64", "1", keys]).done();
         assert_eq!(fs::read(&file).unwrap(), blank_sheet(2, 4));
     }
     // Where nothing is, --force changes nothing.
@@ -227,7 +231,8 @@ fn blank_leaves_an_existing_file_alone_unless_forced() {
         scratch.join("new"),
         "2",
         "64",
-        "1"
+        "1",
+        keys
     ])
     .done();
     assert_eq!(fs::read(scratch.join("new")).unwrap(), blank_sheet(2, 4));
@@ -253,8 +258,9 @@ fn a_symbolic_link_is_followed_and_stays() {
     let sheet = written(&blank_sheet(1, 4), 8, 0, b"Vase");
     assert_eq!(fs::read(&file).unwrap(), sheet);
     run(&words!["read", link, "0", keys]).printed(b"Vase");
-    run(&words!["blank", link, "1", "64", "1"]).failed(74, "exists");
-    run(&words!["blank", link, "1", "96", "1", "--force"]).done();
+    run(&words!["blank", link, "1", "64", "1", keys]).failed(74, "exists");
+    let longer = shared_keys(12);
+    run(&words!["blank", link, "1", "96", "1", longer, "--force"]).done();
     assert_eq!(fs::read(&file).unwrap(), blank_sheet(1, 6));
     assert_eq!(fs::read_link(&link).unwrap(), Path::new("folder/sheet"));
     assert_eq!(fs::read_link(&second).unwrap(), link);
@@ -269,12 +275,12 @@ fn a_symbolic_link_to_nothing_is_left_alone() {
     symlink("nowhere", &link).unwrap();
     let missing = "No such file or directory";
     all_fail(&link, &keys, missing, missing);
-    run(&words!["blank", link, "1", "64", "1"]).failed(74, missing);
-    run(&words!["blank", link, "1", "64", "1", "--force"]).failed(74, missing);
+    run(&words!["blank", link, "1", "64", "1", keys]).failed(74, missing);
+    run(&words!["blank", link, "1", "64", "1", keys, "--force"]).failed(74, missing);
     assert_eq!(scratch.names(), ["keys-8", "link"]);
     let around = scratch.join("around");
     symlink("around", &around).unwrap();
-    run(&words!["blank", around, "1", "64", "1"]).failed(74, "symbolic links");
+    run(&words!["blank", around, "1", "64", "1", keys]).failed(74, "symbolic links");
 }
 
 /// As the help text says: the other name keeps the old sheet.
@@ -298,7 +304,7 @@ fn a_hard_link_stays_with_the_old_sheet() {
 fn the_longest_name_will_do() {
     let scratch = Scratch::new();
     let (file, keys) = (scratch.join("s".repeat(255)), scratch.keys(8));
-    run(&words!["blank", file, "1", "64", "1"]).done();
+    run(&words!["blank", file, "1", "64", "1", keys]).done();
     run_with(&words!["write", file, "0", keys], b"Vase").done();
     run(&words!["read", file, "0", keys]).printed(b"Vase");
     run(&words![
@@ -306,7 +312,8 @@ fn the_longest_name_will_do() {
         scratch.join("s".repeat(256)),
         "1",
         "64",
-        "1"
+        "1",
+        keys
     ])
     .failed(74, "too long");
 }
@@ -315,15 +322,17 @@ fn the_longest_name_will_do() {
 #[test]
 fn a_folders_name_is_no_new_sheets() {
     let scratch = Scratch::new();
+    let keys = shared_keys(8);
     for end in ["/", "//", "/."] {
         let mut name = scratch.join("new").into_os_string();
         name.push(end);
         let message = "a folder's name, not a file's";
-        run(&words!["blank", name, "1", "64", "1"]).failed(74, message);
-        run(&words!["blank", name, "1", "64", "1", "--force"]).failed(74, message);
+        run(&words!["blank", name, "1", "64", "1", keys]).failed(74, message);
+        run(&words!["blank", name, "1", "64", "1", keys, "--force"]).failed(74, message);
         run(&words!["keys", name, "64"]).failed(74, message);
     }
-    run(&words!["blank", scratch.join("new/.."), "1", "64", "1"]).failed(74, "No such file");
+    let folder = scratch.join("new/..");
+    run(&words!["blank", folder, "1", "64", "1", keys]).failed(74, "No such file");
     assert!(scratch.names().is_empty());
 }
 
@@ -335,13 +344,14 @@ fn a_message_names_the_folder_if_it_is_the_folders_fault() {
     fs::create_dir(&folder).unwrap();
     let file = folder.join("sheet");
     fs::write(&file, blank_sheet(1, 4)).unwrap();
-    run(&words!["blank", scratch.join("none/sheet"), "1", "64", "1"])
+    let new = scratch.join("none/sheet");
+    run(&words!["blank", new, "1", "64", "1", keys])
         .failed(74, "none/sheet: its folder: No such file");
     unprivileged(&scratch);
     let run = |words: &[std::ffi::OsString]| unprivileged_run(&scratch, words, b"Vase");
     set_mode(&folder, 0o333);
     let message = format!("captions: {}: the folder can't be opened", folder.display());
     run(&words!["write", file, "0", keys]).failed(74, &message);
-    run(&words!["blank", folder.join("new"), "1", "64", "1"]).failed(74, &message);
+    run(&words!["blank", folder.join("new"), "1", "64", "1", keys]).failed(74, &message);
     set_mode(&folder, 0o755);
 }

@@ -46,8 +46,8 @@ fn help_as_people_ask_for_it() {
     run(&["help", "open"]).failed(64, "no command open");
     run(&["help", "list", "read"]).failed(64, "help takes one command");
     run(&["list", "--", "--help"]).failed(74, "--help: No such file");
-    assert_eq!(printed(&["--version"]), "captions 0.4.0\n");
-    assert_eq!(printed(&["-V"]), "captions 0.4.0\n");
+    assert_eq!(printed(&["--version"]), "captions 0.5.0\n");
+    assert_eq!(printed(&["-V"]), "captions 0.5.0\n");
 }
 
 /// A section's items: terms, and texts with their lines joined.
@@ -100,13 +100,13 @@ fn help_has_one_form() {
 fn help_has_every_status_and_what_a_sheet_cannot_tell() {
     let all = printed(&["help"]);
     let statuses = items(&all, "Exit status");
-    for number in 1..=13 {
+    for number in 1..=14 {
         let refusal = captions::Refusal::of_number(number).unwrap();
         let (term, text) = &statuses[usize::from(number)];
         assert_eq!(*term, number.to_string());
         assert!(text.starts_with(&format!("{refusal}: ")));
     }
-    let others: Vec<&str> = statuses[14..]
+    let others: Vec<&str> = statuses[15..]
         .iter()
         .map(|(term, _)| term.as_str())
         .collect();
@@ -118,11 +118,22 @@ fn help_has_every_status_and_what_a_sheet_cannot_tell() {
         "after a day where another machine made it",
         "neither sealed nor checked",
         "its serial was changed",
+        "One pair of keys\nserves a sheet, the pair that it was blanked with",
+        "nothing stops a write under another pair",
     ] {
         assert!(all.contains(words), "{words}");
     }
     assert!(printed(&["help", "verify"]).contains("verifies as sound"));
     assert!(printed(&["help", "write"]).contains("30 if not given"));
+    for name in ["blank", "read", "write", "verify"] {
+        let help = printed(&["help", name]);
+        assert!(help.contains("(exit status 14)"), "{name}");
+    }
+    for name in ["read", "write", "verify", "export", "import"] {
+        let help = printed(&["help", name]);
+        let mut statuses = items(&help, "Exit status").into_iter();
+        assert!(statuses.any(|(term, _)| term == "14"), "{name}");
+    }
 }
 
 /// What the help says is so: a sheet put back is sound.
@@ -137,12 +148,13 @@ fn an_old_sheet_put_back_verifies_as_sound() {
     run(&words!["verify", file, keys]).printed(b"0 sound 10\nslots 1 sound 1 blank 0 altered 0\n");
 }
 
-/// The same of a serial that was changed: the first eight bytes are others, and
-/// a caption is altered if it ends among them.
+/// The same of a serial that was changed on a sheet of edition 2: the first eight
+/// bytes are others, and a caption is altered if it ends among them.
 #[test]
-fn a_changed_serial_changes_eight_bytes() {
+fn a_changed_serial_changes_eight_bytes_or_the_mark() {
     let scratch = Scratch::new();
-    let (file, keys) = (scratch.sheet("sheet", 2, 4), scratch.keys(8));
+    let (file, keys) = (scratch.join("sheet"), scratch.keys(8));
+    std::fs::write(&file, blank_sheet_2(2, 4)).unwrap();
     run(&words!["write", file, "0", keys, "--text", "Vase, 1751"]).done();
     run(&words!["write", file, "1", keys, "--text", "Vase"]).done();
     let mut sheet = std::fs::read(&file).unwrap();
@@ -152,4 +164,9 @@ fn a_changed_serial_changes_eight_bytes() {
     assert_eq!((read.status, &read.stdout[8..]), (0, &b"51"[..]));
     assert_ne!(read.stdout[..8], *b"Vase, 17");
     run(&words!["read", file, "1", keys]).refused(10, "altered");
+
+    let mut sheet = blank_sheet(2, 4);
+    sheet[9] ^= 1;
+    std::fs::write(&file, sheet).unwrap();
+    run(&words!["read", file, "1", keys]).refused(14, "other keys");
 }

@@ -28,7 +28,7 @@ fn a_pair_of_keys_is_made() {
                 assert!(seen.insert(line.to_string()), "a key that was there before");
             }
             let file = scratch.join("sheet");
-            run(&words!["blank", file, "1", bits, "1", "--force"]).done();
+            run(&words!["blank", file, "1", bits, "1", keys, "--force"]).done();
             run(&words!["write", file, "0", keys, "--text", "Vase"]).done();
             run(&words!["read", file, "0", keys]).printed(b"Vase");
         }
@@ -115,6 +115,16 @@ fn keys_that_everybody_can_read_are_warned_of() {
             words!["verify", file, keys].to_vec(),
             words!["export", file, keys].to_vec(),
             words!["import", file, keys, "--file", table].to_vec(),
+            words![
+                "blank",
+                scratch.join("new"),
+                "1",
+                "64",
+                "1",
+                keys,
+                "--force"
+            ]
+            .to_vec(),
         ] {
             let run = run(&command);
             assert_eq!(run.status, 0);
@@ -140,6 +150,7 @@ fn said_of(text: &[u8], file: &Path, keys: &Path) -> String {
         words!["verify", file, keys].to_vec(),
         words!["export", file, keys].to_vec(),
         words!["import", file, keys, "--file", "/dev/null"].to_vec(),
+        words!["blank", file, "1", "64", "1", keys, "--force"].to_vec(),
     ]
     .iter()
     .map(|words| {
@@ -313,7 +324,7 @@ fn no_part_of_a_key_is_ever_shown() {
         let mut command = Command::new(PROGRAM);
         command.args(words!["read", place.file, "0", keys]);
         let run = run_command(command, b"");
-        assert!([0, 1, 5, 10, 65].contains(&run.status), "{}", run.status);
+        assert!([0, 1, 5, 14, 65].contains(&run.status), "{}", run.status);
         for key in [&place.sealing, &place.checking] {
             let mut parts = key.as_bytes().windows(4);
             let message = run.stderr.rsplit("keys: ").next().unwrap();

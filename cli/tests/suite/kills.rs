@@ -69,7 +69,7 @@ fn a_limit_on_the_size_of_files() {
         for change in [
             words!["write", file, "0", keys].to_vec(),
             words!["clear", file, "0"].to_vec(),
-            words!["blank", file, "200", "96", "1", "--force"].to_vec(),
+            words!["blank", file, "200", "96", "1", shared_keys(12), "--force"].to_vec(),
         ] {
             fs::write(&file, &sheet).unwrap();
             let line = format!("ulimit -c 0; ulimit -f {blocks}; exec \"$@\"");
@@ -81,7 +81,7 @@ fn a_limit_on_the_size_of_files() {
             assert!(fs::read(&file).unwrap() == sheet);
             assert_eq!(scratch.names(), ["keys-8", "sheet"]);
         }
-        let new = words!["blank", scratch.join("new"), "256", "64", "1"];
+        let new = words!["blank", scratch.join("new"), "256", "64", "1", keys];
         let line = format!("ulimit -f {blocks}; trap '' XFSZ; exec \"$@\"");
         shell(&line, &new, b"").failed(74, "File too large");
         assert_eq!(scratch.names(), ["keys-8", "sheet"]);

@@ -39,7 +39,7 @@ fn changes(scratch: &Scratch) -> [Vec<std::ffi::OsString>; 4] {
         words!["write", file, "0", keys].to_vec(),
         words!["clear", file, "0"].to_vec(),
         words!["clear", file, "0"].to_vec(),
-        words!["blank", file, "1", "64", "1", "--force"].to_vec(),
+        words!["blank", file, "1", "64", "1", keys, "--force"].to_vec(),
     ]
 }
 
@@ -177,7 +177,7 @@ fn a_temporary_files_name_is_no_sheets() {
         let message = "a temporary file's name";
         run(&words!["clear", file, "0"]).failed(74, message);
         run(&words!["write", file, "0", keys, "--text", "Vase"]).failed(74, message);
-        run(&words!["blank", file, "1", "64", "1", "--force"]).failed(74, message);
+        run(&words!["blank", file, "1", "64", "1", keys, "--force"]).failed(74, message);
         run(&words!["keys", file, "64"]).failed(74, message);
         assert_eq!(fs::read(&file).unwrap(), blank_sheet(1, 4));
         fs::remove_file(file).unwrap();

@@ -13,6 +13,7 @@ mod keys;
 mod kills;
 mod leftovers;
 mod listing;
+mod one_pair;
 mod refusals;
 mod streams;
 mod support;

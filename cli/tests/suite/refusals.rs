@@ -11,7 +11,7 @@ use std::path::Path;
 /// Runs a command that is to be refused and sees that the file is the same one
 /// as before, byte for byte and not merely equal.
 #[track_caller]
-fn refused(words: &[OsString], stdin: &[u8], file: &Path, number: i32, word: &str) {
+pub fn refused(words: &[OsString], stdin: &[u8], file: &Path, number: i32, word: &str) {
     let state = |file: &Path| {
         let metadata = fs::metadata(file).unwrap();
         let modified = (metadata.mtime(), metadata.mtime_nsec());
@@ -38,7 +38,7 @@ fn wrong_key() {
         "18446744073709551616",
     ] {
         refused(
-            &words!["blank", file, "2", bits, "1", "--force"],
+            &words!["blank", file, "2", bits, "1", shared_keys(8), "--force"],
             b"",
             &file,
             1,
@@ -48,6 +48,8 @@ fn wrong_key() {
     let wrong = [(7, 7), (9, 9), (8, 12), (16, 8), (0, 0), (13, 13), (17, 17)];
     for (sealing, checking) in wrong {
         let keys = scratch.key_file("keys", &vec![1; sealing], &vec![2; checking]);
+        let blank = words!["blank", file, "2", "64", "1", keys, "--force"];
+        refused(&blank, b"", &file, 1, "wrong key");
         refused(
             &words!["write", file, "0", keys],
             b"Vase",
@@ -65,6 +67,8 @@ fn twin_keys() {
     let scratch = Scratch::new();
     let file = scratch.sheet("sheet", 2, 4);
     let keys = scratch.key_file("keys", &[7; 8], &[7; 8]);
+    let blank = words!["blank", file, "2", "64", "1", keys, "--force"];
+    refused(&blank, b"", &file, 2, "twin keys");
     refused(
         &words!["write", file, "0", keys],
         b"Vase",
@@ -88,14 +92,14 @@ fn wrong_span() {
         "99999999999999999999999",
     ] {
         refused(
-            &words!["blank", file, slots, "64", "1", "--force"],
+            &words!["blank", file, slots, "64", "1", shared_keys(8), "--force"],
             b"",
             &file,
             3,
             "wrong span",
         );
         let new = scratch.join("new");
-        run(&words!["blank", new, slots, "64", "1"]).refused(3, "wrong span");
+        run(&words!["blank", new, slots, "64", "1", shared_keys(8)]).refused(3, "wrong span");
         assert!(!new.exists());
     }
 }
@@ -114,11 +118,15 @@ fn unfit_sheet() {
         [&largest[..], b"\0"].concat(),
         vec![0; 1 << 20],
     ];
-    // Another edition or an unknown one, and each of the six zero bytes.
-    let header = [(3, 0), (3, 1), (3, 3)].into_iter();
-    for (place, value) in header.chain((10..16).map(|place| (place, 1))) {
+    // Another edition or an unknown one, and each of edition 2's six zero bytes.
+    for edition in [0, 1, 2, 4] {
         let mut sheet = sheet.clone();
-        sheet[place] = value;
+        sheet[3] = edition;
+        unfit.push(sheet);
+    }
+    for place in 10..16 {
+        let mut sheet = blank_sheet_2(2, 4);
+        sheet[place] = 1;
         unfit.push(sheet);
     }
     for sheet in unfit {
@@ -146,6 +154,8 @@ fn unfit_sheet() {
 fn other_key_class() {
     let scratch = Scratch::new();
     let (file, keys) = (scratch.sheet("sheet", 2, 4), scratch.keys(12));
+    let blank = words!["blank", file, "2", "64", "1", keys, "--force"];
+    refused(&blank, b"", &file, 5, "other key class");
     refused(
         &words!["write", file, "0", keys],
         b"Vase",
@@ -282,9 +292,15 @@ fn blank() {
 
 #[test]
 fn altered() {
+    for blank in [blank_sheet(2, 4), blank_sheet_2(2, 4)] {
+        altered_in(&blank);
+    }
+}
+
+fn altered_in(blank: &[u8]) {
     let scratch = Scratch::new();
     let (file, keys) = (scratch.join("sheet"), scratch.keys(8));
-    let sheet = written(&blank_sheet(2, 4), 8, 1, b"Clock");
+    let sheet = written(blank, 8, 1, b"Clock");
     let mark = EDITION.mark_place(1).start;
     let field = EDITION.field_place(2, 1).start;
     for place in [mark + 5, mark + 8, mark + 15, field, field + 191] {
@@ -294,17 +310,8 @@ fn altered() {
         let words = "altered: the check differs";
         refused(&words!["read", file, "1", keys], b"", &file, 10, words);
     }
-    // The keys the wrong way round; a slot moved to another place.
-    fs::write(&file, &sheet).unwrap();
-    let swapped = scratch.key_file("swapped", &CHECKING[..8], &SEALING[..8]);
-    refused(
-        &words!["read", file, "1", swapped],
-        b"",
-        &file,
-        10,
-        "altered",
-    );
-    let mut moved = blank_sheet(2, 4);
+    // A slot moved to another place.
+    let mut moved = blank.to_vec();
     moved[4..8].copy_from_slice(&sheet[4..8]);
     moved[EDITION.mark_place(0)].copy_from_slice(&sheet[EDITION.mark_place(1)]);
     moved[EDITION.field_place(2, 0)].copy_from_slice(&sheet[EDITION.field_place(2, 1)]);

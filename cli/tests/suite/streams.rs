@@ -119,14 +119,18 @@ fn no_reader() -> std::io::PipeWriter {
 /// Nothing can be said then, but the exit status tells.
 #[test]
 fn a_full_standard_error_keeps_the_exit_status() {
+    let keys = shared_keys(8);
     for (words, status) in [
-        (&["list"][..], 64),
-        (&["list", "/nowhere"], 74),
-        (&["clear", "/nowhere", "0"], 74),
-        (&["blank", "/nowhere/sheet", "0", "64", "1"], 3),
-        (&["--help"], 74),
+        (words!["list"].to_vec(), 64),
+        (words!["list", "/nowhere"].to_vec(), 74),
+        (words!["clear", "/nowhere", "0"].to_vec(), 74),
+        (
+            words!["blank", "/nowhere/sheet", "0", "64", "1", keys].to_vec(),
+            3,
+        ),
+        (words!["--help"].to_vec(), 74),
     ] {
-        let run = shell("exec \"$@\" >/dev/full 2>/dev/full", words, b"");
+        let run = shell("exec \"$@\" >/dev/full 2>/dev/full", &words, b"");
         assert_eq!(run.status, status);
     }
 }
@@ -239,6 +243,9 @@ fn a_dash_is_standard_input() {
         &key_text,
     )
     .done();
+    let new = scratch.join("new");
+    run_with(&words!["blank", new, "2", "64", "1", "-"], &key_text).done();
+    assert_eq!(fs::read(&new).unwrap(), blank_sheet(2, 4));
     for words in [
         words!["read", "-", "0", "-"].to_vec(),
         words!["verify", "-", "-"].to_vec(),
@@ -250,7 +257,7 @@ fn a_dash_is_standard_input() {
         run(&words).failed(64, "standard input can't be two things at once");
     }
     for words in [
-        words!["blank", "-", "1", "64", "1"].to_vec(),
+        words!["blank", "-", "1", "64", "1", keys].to_vec(),
         words!["write", "-", "0", keys, "--text", "a"].to_vec(),
         words!["clear", "-", "0"].to_vec(),
         words!["keys", "-", "64"].to_vec(),
@@ -262,6 +269,6 @@ fn a_dash_is_standard_input() {
         command.args(words).current_dir(scratch.path());
         run_command(command, b"")
     };
-    at(&["blank", "./-", "1", "64", "1"]).done();
+    at(&["blank", "./-", "1", "64", "1", "keys-8"]).done();
     at(&["list", "./-"]).printed(b"slots 1 key 64 last 0\n0 blank\n");
 }

@@ -112,19 +112,41 @@ pub fn hex(bytes: &[u8]) -> String {
     bytes.iter().map(|byte| format!("{byte:02x}")).collect()
 }
 
+/// A file of the keys of this many bytes, for tests whose folder is to hold none.
+pub fn shared_keys(length: usize) -> PathBuf {
+    static MADE: OnceLock<()> = OnceLock::new();
+    let folder = Path::new(env!("CARGO_TARGET_TMPDIR"));
+    let file = |length: usize| folder.join(format!("keys-{length}"));
+    MADE.get_or_init(|| {
+        for length in [8, 12, 16] {
+            let [sealing, checking] = [SEALING, CHECKING].map(|key| hex(&key[..length]));
+            fs::write(file(length), format!("{sealing}\n{checking}\n")).unwrap();
+            set_mode(&file(length), 0o600);
+        }
+    });
+    file(length)
+}
+
 /// The edition of `blank_sheet`, and of `captions blank` with the serial 1.
-pub const EDITION: Edition = Edition::Two(1);
+pub const EDITION: Edition = Edition::Three(1);
 
 pub fn blank_sheet(slots: usize, key_words: usize) -> Vec<u8> {
     blank_sheet_with(slots, key_words, 1)
 }
 
-/// A sheet as a blanking by the second program makes it.
+/// A sheet as a blanking by the second program makes it, for the keys of its
+/// class.
 pub fn blank_sheet_with(slots: usize, key_words: usize, serial: u16) -> Vec<u8> {
     let mut sheet = vec![0; Edition::BLANKED.sheet_length(slots)];
-    let answer = reference::blank(&mut sheet, slots, key_words, serial);
+    let [sealing, checking] = [&SEALING, &CHECKING].map(|key| &key[..2 * key_words]);
+    let answer = reference::blank(&mut sheet, slots, key_words, serial, sealing, checking);
     assert_eq!(answer.number, 0);
     sheet
+}
+
+/// A sheet of edition 2, which no program makes any more.
+pub fn blank_sheet_2(slots: usize, key_words: usize) -> Vec<u8> {
+    Edition::Two(1).blank_sheet(slots, key_words)
 }
 
 /// A sheet as a write by the second program leaves it.

@@ -360,12 +360,14 @@ fn keys_and_sheets_that_are_refused() {
     let place = Place::new(&three_slots());
     let table = "slot\ttext\n1\tClock\n";
     let long = place.scratch.keys(12);
+    let other = place.scratch.key_file("other", &[7; 8], &[8; 8]);
     let twins = place.scratch.key_file("twins", &[7; 8], &[7; 8]);
     let wrong = place.scratch.key_file("wrong", &[7; 9], &[8; 9]);
     for (keys, number, word) in [
         (&wrong, 1, "wrong key"),
         (&twins, 2, "twin keys"),
         (&long, 5, "other key class"),
+        (&other, 14, "other keys"),
     ] {
         run(&words!["export", place.file, keys]).refused(number, word);
         run_with(&words!["import", place.file, keys], table.as_bytes()).refused(number, word);
@@ -378,8 +380,8 @@ fn keys_and_sheets_that_are_refused() {
     place.import(table).refused(4, "unfit sheet");
 }
 
-/// An altered slot isn't in the table, and an import doesn't touch it: with
-/// another pair of keys every slot is altered.
+/// An altered slot isn't in the table, and an import doesn't touch it: on a sheet
+/// of edition 2 every slot is altered to another pair of keys.
 #[test]
 fn altered_slots() {
     let mut sheet = written(&three_slots(), 8, 1, b"Clock");
@@ -405,6 +407,8 @@ fn altered_slots() {
         10,
         "captions: standard input: line 3, slot 1: altered: the check differs\n10 altered\n",
     );
+    let sheet = written(&blank_sheet_2(1, 4), 8, 0, b"Clock");
+    let place = Place::new(&sheet);
     let other = place.scratch.key_file("other", &[7; 8], &[8; 8]);
     let import = words!["import", place.file, other, "--clear"];
     assert_eq!(run_with(&import, b"slot\ttext\n0\tA\n").status, 10);

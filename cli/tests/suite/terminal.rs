@@ -127,6 +127,25 @@ fn a_hint_at_a_dates_form() {
     }
 }
 
+/// Which keys the sheet was blanked with, nobody can be told.
+#[test]
+fn a_hint_at_other_keys() {
+    let scratch = Scratch::new();
+    let file = scratch.sheet("sheet", 1, 4);
+    let keys = scratch.key_file("other", &[1; 8], &[2; 8]);
+    let hint = "captions: the sheet was blanked with other keys, or its serial or mark was changed";
+    for words in [
+        words!["read", file, "0", keys].to_vec(),
+        words!["write", file, "0", keys, "--text", "Vase"].to_vec(),
+        words!["verify", file, keys].to_vec(),
+    ] {
+        let (status, shown) = at_a_terminal(&words, b"");
+        let lines: Vec<&str> = shown.lines().collect();
+        assert_eq!((status, lines), (14, vec![hint, "14 other keys"]));
+        run(&words).refused(14, "other keys");
+    }
+}
+
 #[test]
 fn a_table_typed_at_a_terminal() {
     let scratch = Scratch::new();
@@ -162,12 +181,22 @@ fn a_name_does_nothing_to_a_terminal() {
             shown,
         ),
         (
-            words!["blank", missing.join("sheet"), "1", "64", "1"].to_vec(),
+            words!["blank", missing.join("sheet"), "1", "64", "1", keys].to_vec(),
             74,
             shown,
         ),
         (
-            words!["blank", folder.join("new"), "1", "64", "1", "--wait", "0"].to_vec(),
+            words![
+                "blank",
+                folder.join("new"),
+                "1",
+                "64",
+                "1",
+                keys,
+                "--wait",
+                "0"
+            ]
+            .to_vec(),
             75,
             "folder\\x1bc",
         ),

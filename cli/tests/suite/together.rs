@@ -189,7 +189,7 @@ fn one_of_several_blanks_makes_the_file_without_a_lock() {
             let runs: Vec<_> = (0..CURATORS)
                 .map(|machine| {
                     let slots = (machine + 1).to_string();
-                    let words = words!["blank", file, slots, "64", "1"];
+                    let words = words!["blank", file, slots, "64", "1", shared_keys(8)];
                     let machines = &machines;
                     scope.spawn(move || (machine, machines.run(machine, &words, b"").status))
                 })
@@ -238,7 +238,11 @@ fn one_of_several_blanks_makes_the_file() {
         let file = scratch.join(format!("sheet-{round}"));
         let done: Vec<i32> = std::thread::scope(|scope| {
             let runs: Vec<_> = (0..4)
-                .map(|_| scope.spawn(|| run(&words!["blank", file, "256", "64", "1"]).status))
+                .map(|_| {
+                    scope.spawn(|| {
+                        run(&words!["blank", file, "256", "64", "1", shared_keys(8)]).status
+                    })
+                })
                 .collect();
             runs.into_iter().map(|run| run.join().unwrap()).collect()
         });

@@ -6,7 +6,7 @@ use std::fs;
 
 /// Each command with the number of its operands.
 const COMMANDS: [(&str, usize); 13] = [
-    ("blank", 4),
+    ("blank", 5),
     ("write", 3),
     ("read", 3),
     ("clear", 2),
@@ -57,10 +57,11 @@ fn a_wrong_command_line_is_64() {
 
 #[test]
 fn an_option_takes_its_word_or_none() {
-    run(&["blank", "a", "1", "64", "1", "--wait"]).failed(64, "--wait takes SECONDS");
+    run(&["blank", "a", "1", "64", "1", "b", "--wait"]).failed(64, "--wait takes SECONDS");
     run(&["write", "a", "1", "b", "--text"]).failed(64, "--text takes TEXT");
-    run(&["blank", "a", "1", "64", "1", "--force=1"]).failed(64, "--force takes no word");
-    run(&["blank", "a", "1", "64", "1", "--force", "--force"]).failed(64, "--force is given twice");
+    run(&["blank", "a", "1", "64", "1", "b", "--force=1"]).failed(64, "--force takes no word");
+    run(&["blank", "--force", "a", "1", "64", "1", "b", "--force"])
+        .failed(64, "--force is given twice");
     run(&["list", "a", "--wait", "1"]).failed(64, "no option --wait");
 }
 
@@ -70,12 +71,14 @@ fn an_empty_name_is_shown() {
     for words in [
         &["list", ""][..],
         &["clear", "", "0"],
-        &["blank", "", "1", "64", "1"],
+        &["blank", "/dev/null", "1", "64", "1", ""],
         &["keys", "", "64"],
         &["read", "/dev/null", "0", ""],
     ] {
         run(words).failed(74, "captions: \"\": No such file");
     }
+    run(&words!["blank", "", "1", "64", "1", shared_keys(8)])
+        .failed(74, "captions: \"\": No such file");
     run(&[""]).failed(64, "no command \"\"");
     run(&["clear", "", ""]).failed(64, "SLOT is a decimal number, not \"\"");
 }
@@ -89,12 +92,12 @@ fn a_double_dash_ends_the_options() {
         command.args(words).current_dir(scratch.path());
         run_command(command, b"")
     };
-    at(&["blank", "--", "--sheet", "1", "64", "1"]).done();
-    at(&["blank", "--force", "--", "--sheet", "2", "64", "1"]).done();
-    at(&["list", "--", "--sheet"]).printed(b"slots 2 key 64 last 0\n0 blank\n1 blank\n");
-    at(&["list", "--sheet"]).failed(64, "no option --sheet");
     at(&["keys", "64", "--", "--keys"]).failed(64, "BITS is a decimal number, not --keys");
     at(&["keys", "--", "--", "64"]).done();
+    at(&["blank", "--", "--sheet", "1", "64", "1", "--"]).done();
+    at(&["blank", "--force", "--", "--sheet", "2", "64", "1", "--"]).done();
+    at(&["list", "--", "--sheet"]).printed(b"slots 2 key 64 last 0\n0 blank\n1 blank\n");
+    at(&["list", "--sheet"]).failed(64, "no option --sheet");
     assert_eq!(scratch.names(), ["--", "--sheet"]);
 }
 
@@ -106,9 +109,9 @@ fn a_number_is_decimal_digits() {
         run(&words!["clear", file, word]).failed(64, "SLOT is a decimal number");
         run(&words!["read", file, word, keys]).failed(64, "SLOT is a decimal number");
         run(&words!["write", file, word, keys]).failed(64, "SLOT is a decimal number");
-        run(&words!["blank", file, word, "64", "1"]).failed(64, "SLOTS is a decimal number");
-        run(&words!["blank", file, "2", word, "1"]).failed(64, "BITS is a decimal number");
-        run(&words!["blank", file, "2", "64", word]).failed(64, "SERIAL is a decimal number");
+        run(&words!["blank", file, word, "64", "1", keys]).failed(64, "SLOTS is a decimal number");
+        run(&words!["blank", file, "2", word, "1", keys]).failed(64, "BITS is a decimal number");
+        run(&words!["blank", file, "2", "64", word, keys]).failed(64, "SERIAL is a decimal number");
     }
     run(&words!["clear", file, "-1"]).failed(64, "no option -1");
     run(&words!["clear", file, "0001"]).done();
@@ -121,6 +124,7 @@ fn a_number_is_decimal_digits() {
 fn a_serial_is_0_to_65535() {
     let scratch = Scratch::new();
     let (file, new) = (scratch.sheet("sheet", 2, 4), scratch.join("new"));
+    let keys = shared_keys(8);
     for (serial, message) in [
         (&["65536"][..], "SERIAL is 0 to 65535, not 65536"),
         (&["65537"], "SERIAL is 0 to 65535"),
@@ -128,9 +132,10 @@ fn a_serial_is_0_to_65535() {
         (&["99999999999999999999999"], "SERIAL is 0 to 65535"),
         (&["-1"], "no option -1"),
         (&["--", "-1"], "SERIAL is a decimal number, not -1"),
-        (&[], "usage: captions blank FILE SLOTS BITS SERIAL"),
+        (&[], "usage: captions blank FILE SLOTS BITS SERIAL KEYS"),
     ] {
-        let serial: Vec<_> = serial.iter().map(std::ffi::OsString::from).collect();
+        let mut serial: Vec<_> = serial.iter().map(std::ffi::OsString::from).collect();
+        serial.push(keys.clone().into());
         for blank in [
             words!["blank", "--force", file, "2", "64"],
             words!["blank", "--wait=0", new, "2", "64"],
@@ -140,6 +145,6 @@ fn a_serial_is_0_to_65535() {
     }
     assert_eq!(fs::read(&file).unwrap(), blank_sheet(2, 4));
     assert_eq!(scratch.names(), ["sheet"]);
-    run(&words!["blank", new, "2", "64", "00065535"]).done();
+    run(&words!["blank", new, "2", "64", "00065535", keys]).done();
     assert_eq!(fs::read(&new).unwrap(), blank_sheet_with(2, 4, 65535));
 }

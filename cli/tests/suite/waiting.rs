@@ -51,8 +51,8 @@ fn changes(scratch: &Scratch) -> Vec<Vec<OsString>> {
     fs::write(&terms, term_sheet(&[(36524, 0); 2])).unwrap();
     fs::write(&file, written(&blank_sheet(1, 4), 8, 0, b"Vase")).unwrap();
     vec![
-        words!["blank", scratch.join("new"), "1", "64", "1"].to_vec(),
-        words!["blank", file, "1", "64", "1", "--force"].to_vec(),
+        words!["blank", scratch.join("new"), "1", "64", "1", keys].to_vec(),
+        words!["blank", file, "1", "64", "1", keys, "--force"].to_vec(),
         words!["write", file, "0", keys, "--text", "Clock"].to_vec(),
         words!["clear", file, "0"].to_vec(),
         words!["import", file, keys, "--file", table].to_vec(),
@@ -175,7 +175,7 @@ fn a_symbolic_link_that_is_turned_elsewhere() {
     for change in [
         words!["write", link, "0", keys, "--text", "Clock"].to_vec(),
         words!["clear", link, "0"].to_vec(),
-        words!["blank", link, "1", "64", "1", "--force"].to_vec(),
+        words!["blank", link, "1", "64", "1", keys, "--force"].to_vec(),
     ] {
         symlink("one/sheet", &link).unwrap();
         let (first, second) = (Locked::new(&one), Locked::new(&other));
@@ -251,7 +251,7 @@ fn a_folder_that_vanishes() {
     for change in [
         words!["write", folder.join("sheet"), "0", keys, "--text", "Vase"].to_vec(),
         words!["clear", folder.join("sheet"), "0"].to_vec(),
-        words!["blank", folder.join("new"), "1", "64", "1"].to_vec(),
+        words!["blank", folder.join("new"), "1", "64", "1", keys].to_vec(),
     ] {
         fs::create_dir(&folder).unwrap();
         fs::write(folder.join("sheet"), blank_sheet(1, 4)).unwrap();
@@ -270,7 +270,7 @@ fn a_file_that_appears() {
     let scratch = Scratch::new();
     let file = scratch.join("sheet");
     let folder = Locked::new(scratch.path());
-    let child = waiting(&words!["blank", file, "1", "64", "1"]);
+    let child = waiting(&words!["blank", file, "1", "64", "1", shared_keys(8)]);
     fs::write(&file, "another's").unwrap();
     drop(folder);
     finished(child).failed(74, "exists");

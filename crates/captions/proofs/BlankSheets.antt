@@ -1,4 +1,4 @@
--- Blank sheets: a header and zeros are one in any edition, and there are no others; the headers of editions 1 and 2.
+-- Blank sheets: a header and zeros are one in any edition, and there are no others; the headers of editions 1, 2 and 3.
 use Prim.Native.Nat.{ℕ, zero, suc, _+_, _*_, _≤_, _<_}
 use mathlib.Core.Path.{_≡_, refl, sym, ap, ap₂, _∙_}
 use mathlib.Core.Bool.{true}
@@ -16,12 +16,12 @@ use Rattle.octets.proofs.Parts.{length-part, part-add, part-all, part-append-le
 use Rattle.octets.proofs.Zeros.{length-zeros, zeros-bytes, zeros-append, part-zeros, allZero-zeros, allZero-is}
 use Rattle.cipher.specs.Key.{mcryptonClass}
 use Rattle.cipher.proofs.Promise.{class-small, mcrypton-known}
-use Rattle.layout.specs.Layout.{Edition, edition1, edition2, rule1, rule2, slots, keyClass, editionByte, lastWrite, serial, sheetSize, markAt, fieldAt, slotCount, mark, field, blankSlot, fitSlot, fitIn, firstEight, blankSlots, blankSheet1, blankHeader, blankSheet}
+use Rattle.layout.specs.Layout.{Edition, edition1, edition2, edition3, rule1, rule2, rule3, slots, keyClass, editionByte, lastWrite, serial, storedMark, sheetSize, markAt, fieldAt, slotCount, mark, field, blankSlot, fitSlot, fitIn, firstEight, blankSlots, blankSheet1, serialHeader, blankSheet2, blankHeader, blankSheet}
 use Rattle.layout.proofs.Header.{count-high}
 use Rattle.layout.proofs.Fits.{Rules, rules-fit, length-mark, length-field}
 use Rattle.captions.specs.Claim.{SameHeader, Regular}
 use Rattle.captions.proofs.Store.{slots-kept, keyClass-kept}
-use Rattle.captions.proofs.Editions.{edition1-regular, edition2-regular}
+use Rattle.captions.proofs.Editions.{edition1-regular, edition2-regular, edition3-regular}
 use Rattle.captions.proofs.Slot.{be-part}
 
 -- ---- a header and slots of zeros, in any edition
@@ -210,6 +210,77 @@ module _ (s : List ℕ) (b : Bytes s) (r : Rules edition1 s) (unused : lastWrite
   unfolding blankSheet1
   blanked-1 blanks = blank-is edition1 s r blanks ∙ ap (λ (u : List ℕ). blankSlots u (slots s)) (eight-is s b 1 (r .long) (byte-one s (r .rule)) unused)
 
+-- ---- the header with a serial, of edition v and with the six bytes m
+
+module _ (v n t x : ℕ) (m : List ℕ) (six : length m ≡ 6) where
+  head-length : length (serialHeader v n t x m) ≡ 16
+  unfolding serialHeader
+  head-length = simp (length-append, length-be, eight-length v n t, six)
+
+  head-bytes : Bytes m → Bytes (serialHeader v n t x m)
+  unfolding serialHeader
+  head-bytes b = append-bytes (eight-bytes v n t) (append-bytes (be-bytes 2 x) b)
+
+  head-part : (a k : ℕ) → a + k ≤ 8 → part (serialHeader v n t x m) a k ≡ part (firstEight v n t) a k
+  unfolding serialHeader
+  head-part a k h = part-append-left (firstEight v n t) _ a k (omega (arith, eight-length v n t))
+
+  past-eight : (a k : ℕ) → part (serialHeader v n t x m) (8 + a) k ≡ part (be 2 x ++ m) a k
+  unfolding serialHeader
+  past-eight a k = part-append-right (firstEight v n t) _ (8 + a) a k (omega (arith, eight-length v n t))
+
+  head-serial : x < 65536 → number (part (serialHeader v n t x m) 8 2) ≡ x
+  head-serial h = ap number (past-eight 0 2 ∙ part-append-head (be 2 x) m 2 (length-be 2 x)) ∙ number-be 2 x (omega arith)
+
+  head-six : part (serialHeader v n t x m) 10 6 ≡ m
+  head-six = past-eight 2 6 ∙ part-append-tail (be 2 x) m 2 6 (length-be 2 x) six
+
+  -- the serial and the six bytes of the sheet
+  made-serial : x < 65536 → number (part (blankSlots (serialHeader v n t x m) n) 8 2) ≡ x
+  made-serial h = ap number (header-part (serialHeader v n t x m) n 8 2 (omega (arith, head-length))) ∙ head-serial h
+
+  made-six : part (blankSlots (serialHeader v n t x m) n) 10 6 ≡ m
+  made-six = header-part (serialHeader v n t x m) n 10 6 (omega (arith, head-length)) ∙ head-six
+
+  -- an edition with such a header, by its rule
+  header-of : (e : Edition) → e .header ≡ 16 → v < 256 → Bytes m → slotCount n ≡ true → mcryptonClass t ≡ true
+      → (keyClass (serialHeader v n t x m) ≡ t → editionByte (serialHeader v n t x m) ≡ v → e .rule (serialHeader v n t x m) ≡ true)
+      → Header e n t (serialHeader v n t x m)
+  unfolding slots keyClass editionByte lastWrite
+  header-of e size low b count class rule =
+      let is : keyClass (serialHeader v n t x m) ≡ t = ap number (head-part 2 1 (omega arith)) ∙ eight-class v n t (small n t count class) in
+      record {
+        size = head-length ∙ sym size;
+        bytes = head-bytes b;
+        count = ap number (head-part 0 2 (omega arith)) ∙ eight-slots v n t (few n t count class);
+        class = is;
+        last = ap number (head-part 4 4 (omega arith)) ∙ eight-last v n t;
+        rule = rule is (ap number (head-part 3 1 (omega arith)) ∙ eight-edition v n t low);
+      }
+
+-- a sheet of an edition with such a header
+module _ (e : Edition) (sixteen : e .header ≡ 16) (s : List ℕ) (b : Bytes s) (r : Rules e s) (unused : lastWrite s ≡ 0) where
+  long : 16 ≤ length s
+  unfolding sheetSize
+  long = omega (arith, r .size, sixteen)
+
+  pub serial-below : serial s < 65536
+  unfolding serial
+  serial-below = number-part-lt s 8 2 (omega (arith, long)) b
+
+  head-is : (v : ℕ) → editionByte s ≡ v → part s 0 (e .header) ≡ serialHeader v (slots s) (keyClass s) (serial s) (part s 10 6)
+  unfolding serialHeader serial
+  head-is v h =
+      ap (part s 0) sixteen
+      ∙ part-add s 0 8 8
+      ∙ ap₂ (λ (u w : List ℕ). u ++ w)
+      (eight-is s b v (r .long) h unused)
+      (part-add s 8 2 6 ∙ ap₂ (λ (u w : List ℕ). u ++ w) (field-is s b 8 2 _ (omega (arith, long)) refl) refl)
+
+  blanked : (v : ℕ) → editionByte s ≡ v → ((i : ℕ) → i < slots s → blankSlot e s i ≡ true)
+      → s ≡ blankSlots (serialHeader v (slots s) (keyClass s) (serial s) (part s 10 6)) (slots s)
+  blanked v h blanks = blank-is e s r blanks ∙ ap (λ (u : List ℕ). blankSlots u (slots s)) (head-is v h)
+
 -- ---- edition 2
 
 pub byte-two : (s : List ℕ) → rule2 s ≡ true → editionByte s ≡ 2
@@ -217,74 +288,56 @@ unfolding rule2
 byte-two s h = eqb-true (editionByte s) 2 (and-left (eqb (editionByte s) 2) _ (and-right (mcryptonClass (keyClass s)) _ h))
 
 module _ (n t x : ℕ) where
-  head-length : length (blankHeader n t x) ≡ 16
-  unfolding blankHeader
-  head-length = simp (length-append, length-be, length-zeros, eight-length 2 n t)
+  pub serial-2 : x < 65536 → serial (blankSheet2 n t x) ≡ x
+  unfolding serial blankSheet2
+  serial-2 = made-serial 2 n t x (zeros 6) (length-zeros 6)
 
-  head-bytes : Bytes (blankHeader n t x)
-  unfolding blankHeader
-  head-bytes = append-bytes (eight-bytes 2 n t) (append-bytes (be-bytes 2 x) (zeros-bytes 6))
-
-  head-part : (a k : ℕ) → a + k ≤ 8 → part (blankHeader n t x) a k ≡ part (firstEight 2 n t) a k
-  unfolding blankHeader
-  head-part a k h = part-append-left (firstEight 2 n t) _ a k (omega (arith, eight-length 2 n t))
-
-  past-eight : (a k : ℕ) → part (blankHeader n t x) (8 + a) k ≡ part (be 2 x ++ zeros 6) a k
-  unfolding blankHeader
-  past-eight a k = part-append-right (firstEight 2 n t) _ (8 + a) a k (omega (arith, eight-length 2 n t))
-
-  head-serial : x < 65536 → number (part (blankHeader n t x) 8 2) ≡ x
-  head-serial h = ap number (past-eight 0 2 ∙ part-append-head (be 2 x) (zeros 6) 2 (length-be 2 x)) ∙ number-be 2 x (omega arith)
-
-  head-zeros : allZero (part (blankHeader n t x) 10 6) ≡ true
-  head-zeros = ap allZero (past-eight 2 6 ∙ part-append-tail (be 2 x) (zeros 6) 2 6 (length-be 2 x) (length-zeros 6)) ∙ allZero-zeros 6
-
-  -- the serial of the sheet
-  pub made-serial : x < 65536 → serial (blankSheet n t x) ≡ x
-  unfolding serial blankSheet
-  made-serial h = ap number (header-part (blankHeader n t x) n 8 2 (omega (arith, head-length))) ∙ head-serial h
-
-  module _ (count : slotCount n ≡ true) (class : mcryptonClass t ≡ true) where
-    header-2 : Header edition2 n t (blankHeader n t x)
-    unfolding rule2 slots keyClass editionByte lastWrite
-    header-2 =
-        let is : keyClass (blankHeader n t x) ≡ t = ap number (head-part 2 1 (omega arith)) ∙ eight-class 2 n t (small n t count class) in
-        record {
-          size = head-length;
-          bytes = head-bytes;
-          count = ap number (head-part 0 2 (omega arith)) ∙ eight-slots 2 n t (few n t count class);
-          class = is;
-          last = ap number (head-part 4 4 (omega arith)) ∙ eight-last 2 n t;
-          rule = rw (is, class, head-part 3 1 (omega arith), eight-edition 2 n t (omega arith), head-zeros);
-        }
-
-    pub made-2 : Made edition2 n t (blankSheet n t x)
-    unfolding blankSheet
-    made-2 = made edition2 edition2-regular n t (blankHeader n t x) header-2 count
+  pub made-2 : slotCount n ≡ true → mcryptonClass t ≡ true → Made edition2 n t (blankSheet2 n t x)
+  unfolding blankSheet2 rule2
+  made-2 count class =
+      made edition2 edition2-regular n t (serialHeader 2 n t x (zeros 6))
+      (header-of 2 n t x (zeros 6) (length-zeros 6) edition2 refl (omega arith) (zeros-bytes 6) count class
+      (λ is edition. rw (is, class, edition, head-six 2 n t x (zeros 6) (length-zeros 6), allZero-zeros 6))) count
 
 module _ (s : List ℕ) (b : Bytes s) (r : Rules edition2 s) (unused : lastWrite s ≡ 0) where
-  sixteen : 16 ≤ length s
-  unfolding sheetSize
-  sixteen = omega (arith, r .size)
-
-  pub serial-below : serial s < 65536
-  unfolding serial
-  serial-below = number-part-lt s 8 2 (omega (arith, sixteen)) b
-
   six-is : part s 10 6 ≡ zeros 6
   unfolding rule2
   six-is =
       allZero-is (part s 10 6) (and-right (eqb (editionByte s) 2) _ (and-right (mcryptonClass (keyClass s)) _ (r .rule)))
-      ∙ ap zeros (length-part s 10 6 (omega (arith, sixteen)))
+      ∙ ap zeros (length-part s 10 6 (omega (arith, long edition2 refl s b r unused)))
 
-  head-is : part s 0 16 ≡ blankHeader (slots s) (keyClass s) (serial s)
-  unfolding blankHeader serial
-  head-is =
-      part-add s 0 8 8
-      ∙ ap₂ (λ (u v : List ℕ). u ++ v)
-      (eight-is s b 2 (r .long) (byte-two s (r .rule)) unused)
-      (part-add s 8 2 6 ∙ ap₂ (λ (u v : List ℕ). u ++ v) (field-is s b 8 2 _ (omega (arith, sixteen)) refl) six-is)
+  pub blanked-2 : ((i : ℕ) → i < slots s → blankSlot edition2 s i ≡ true) → s ≡ blankSheet2 (slots s) (keyClass s) (serial s)
+  unfolding blankSheet2
+  blanked-2 blanks =
+      blanked edition2 refl s b r unused 2 (byte-two s (r .rule)) blanks
+      ∙ ap (λ (m : List ℕ). blankSlots (serialHeader 2 (slots s) (keyClass s) (serial s) m) (slots s)) six-is
 
-  pub blanked-2 : ((i : ℕ) → i < slots s → blankSlot edition2 s i ≡ true) → s ≡ blankSheet (slots s) (keyClass s) (serial s)
-  unfolding blankSheet
-  blanked-2 blanks = blank-is edition2 s r blanks ∙ ap (λ (u : List ℕ). blankSlots u (slots s)) head-is
+-- ---- edition 3
+
+pub byte-three : (s : List ℕ) → rule3 s ≡ true → editionByte s ≡ 3
+unfolding rule3
+byte-three s h = eqb-true (editionByte s) 3 (and-right (mcryptonClass (keyClass s)) _ h)
+
+module _ (n t x : ℕ) (m : List ℕ) (six : length m ≡ 6) where
+  pub serial-3 : x < 65536 → serial (blankSheet n t x m) ≡ x
+  unfolding serial blankSheet blankHeader
+  serial-3 = made-serial 3 n t x m six
+
+  pub mark-3 : storedMark (blankSheet n t x m) ≡ m
+  unfolding storedMark blankSheet blankHeader
+  mark-3 = made-six 3 n t x m six
+
+  pub made-3 : Bytes m → slotCount n ≡ true → mcryptonClass t ≡ true → Made edition3 n t (blankSheet n t x m)
+  unfolding blankSheet blankHeader rule3
+  made-3 b count class =
+      made edition3 edition3-regular n t (serialHeader 3 n t x m)
+      (header-of 3 n t x m six edition3 refl (omega arith) b count class (λ is edition. rw (is, class, edition))) count
+
+module _ (s : List ℕ) (b : Bytes s) (r : Rules edition3 s) (unused : lastWrite s ≡ 0) where
+  pub length-mark-3 : length (storedMark s) ≡ 6
+  unfolding storedMark
+  length-mark-3 = length-part s 10 6 (omega (arith, long edition3 refl s b r unused))
+
+  pub blanked-3 : ((i : ℕ) → i < slots s → blankSlot edition3 s i ≡ true) → s ≡ blankSheet (slots s) (keyClass s) (serial s) (storedMark s)
+  unfolding blankSheet blankHeader storedMark
+  blanked-3 blanks = blanked edition3 refl s b r unused 3 (byte-three s (r .rule)) blanks

@@ -3,22 +3,22 @@
 use Prim.Native.Nat.{ℕ, _+_, _^_, _≤_, _<_}
 use mathlib.Core.Path.{_≡_, refl, sym, ap}
 use mathlib.Core.Logic.{_≢_}
-use mathlib.Core.Bool.{true, false, not}
+use mathlib.Core.Bool.{Bool, true, false, not, _&&_}
 use mathlib.Core.List.{List}
 use native.Mathlib.Nat.{le-refl}
 use native.Mathlib.Omega.{arith}
 use lib.ListN.{length}
 use borrow.Author.Tests.{lt-leb, eq-eqb}
-use Rattle.octets.specs.Bytes.{Bytes, zeros}
+use Rattle.octets.specs.Bytes.{Bytes, zeros, same}
 use Rattle.octets.specs.Outcome.{decided}
 use Rattle.octets.proofs.Compare.{same-self}
 use Rattle.octets.proofs.Numbers.{number-part-lt}
 use Rattle.octets.proofs.Zeros.{length-zeros, zeros-bytes}
 use Rattle.modes.specs.Laws.{ByteBlocks}
-use Rattle.layout.specs.Layout.{Edition, slots, lastWrite, blankSlot, storeSlot, storeLast}
+use Rattle.layout.specs.Layout.{Edition, slots, lastWrite, serial, storedMark, blankSlot, storeSlot, storeLast}
 use Rattle.layout.proofs.Fits.{Rules, fit-rules, rules-fit}
 use Rattle.captions.specs.Answers.{firstOf}
-use Rattle.captions.specs.Captions.{Keys, Ciphers, padded, sealedField, openedField, checkOf, slotMark, storedAs, written, opened, altered, change, cleared}
+use Rattle.captions.specs.Captions.{Keys, Ciphers, markFor, otherKeys, padded, sealedField, openedField, checkOf, slotMark, storedAs, written, opened, altered, change, cleared}
 use Rattle.captions.specs.Calls.{keyTests, otherClass, classTests, pairTests, sheetTests, windowTests, openTests, readTests, readingWith}
 use Rattle.captions.specs.Model.{Page, blank, holds}
 use Rattle.captions.specs.Claim.{SameHeader, Regular, Sound, Fits, shown}
@@ -79,21 +79,33 @@ module _ (e : Edition) (x : Ciphers) (k : Keys) (s : List ℕ) (g : Fits e x k s
       decided-past (windowTests e x k s i (length window)) _ _ _ _ (read-passed i window h l)
       (unfold decided in rw (b, l))
 
+-- ---- the tests of a pair look at bytes of the header that a call keeps
+
+module _ (e : Edition) (reg : Regular e) (x : Ciphers) (k : Keys) (s s′ : List ℕ) (h : SameHeader (e .header) s s′) where
+  mark-kept : otherKeys x e s ≡ otherKeys x e s′
+  unfolding otherKeys markFor serial storedMark
+  mark-kept = go (e .keyed) refl
+    where
+      go : (b : Bool) → e .keyed ≡ b → b && not (same (markFor x s) (storedMark s)) ≡ b && not (same (markFor x s′) (storedMark s′))
+      go false q = refl
+      go true q =
+          let l : 16 ≤ e .header = reg .keyed-size q in
+          unfold markFor serial storedMark in rw (slots-kept h, keyClass-kept h, h .high 8 2 (omega arith) (omega arith), h .high 10 6 (omega arith) (omega arith))
+
+  pub pair-kept : pairTests e x k s ≡ pairTests e x k s′
+  unfolding pairTests classTests otherClass
+  pair-kept = rw (keyClass-kept h, mark-kept)
+
 -- ---- a slot stored
 
 module _ (e : Edition) (reg : Regular e) (x : Ciphers) (k : Keys) (s : List ℕ) (g : Fits e x k s) where
-  -- the tests of a pair look at bytes of the header that a call keeps
-  pair-kept : {s′ : List ℕ} → SameHeader (e .header) s s′ → pairTests e x k s ≡ pairTests e x k s′
-  unfolding pairTests classTests otherClass
-  pair-kept h = rw (keyClass-kept h)
-
   module _ (j w : ℕ) (m f s′ : List ℕ) (st : Stored e j w m f s s′) where
     stored-fits : Bytes s′ → lastWrite s ≤ w → slotFits w m f ≡ true → Fits e x k s′
     stored-fits b grows h =
         record {
           bytes = b;
           fits = rules-fit e s′ (stored-rules e reg j w m f s s′ (rules e x k s g) st grows h);
-          passes = rw (← pair-kept (st .header)) (g .passes);
+          passes = rw (← pair-kept e reg x k s s′ (st .header)) (g .passes);
         }
 
     stored-others : Fits e x k s′ → (i : ℕ) → i < slots s → i ≢ j → (window : List ℕ) → length window ≡ 192

@@ -10,5 +10,6 @@ pub mod Agree
 pub mod ReadBack
 pub mod WriteBack
 pub mod BlankSheets
+pub mod KeyMark
 pub mod Refusals
 pub mod Starts

@@ -22,7 +22,7 @@ use Rattle.captions.specs.Captions.{Keys, Ciphers, padded, newMark, star
 use Rattle.captions.specs.Calls.{keyTests, otherClass, classTests, sheetTests, windowTests, openTests, readTests, readingWith}
 use Rattle.captions.specs.Claim.{Sound}
 use Rattle.captions.specs.declared.Answer.{Answer}
-use Rattle.captions.specs.declared.Answer.the-variants.{Accepted, WrongKey, TwinKeys, WrongSpan, UnfitSheet, OtherKeyClass, NoSuchSlot, Blank, Altered}
+use Rattle.captions.specs.declared.Answer.the-variants.{Accepted, WrongKey, TwinKeys, WrongSpan, UnfitSheet, OtherKeyClass, NoSuchSlot, Blank, Altered, OtherKeys}
 use Rattle.captions.proofs.Tables.{Unmet, end, next, decided-unmet, decided-accepted}
 use Rattle.layout.proofs.Fits.{Rules, fit-rules, length-mark, length-field, Written, mark-written, not-blank-written}
 use Rattle.captions.proofs.Slot.{start-block, chaining, be-part}
@@ -38,11 +38,11 @@ pub record Read (e : Edition) (x : Ciphers) (k : Keys) (s : List ℕ) (i n : ℕ
   pub count : markLength (mark e s i) ≡ n
   pub window : opened x e s i ≡ v
 
-or-false-left : (a b : Bool) → a || b ≡ false → a ≡ false
+pub or-false-left : (a b : Bool) → a || b ≡ false → a ≡ false
 or-false-left true b h = h
 or-false-left false b h = refl
 
-or-false-right : (a b : Bool) → a || b ≡ false → b ≡ false
+pub or-false-right : (a b : Bool) → a || b ≡ false → b ≡ false
 or-false-right true b h = absurd (let z : _≡_ {A = ℕ} 0 1 = cc in omega arith)
 or-false-right false b h = h
 
@@ -62,13 +62,13 @@ accepted-read e x k s i n window v h = go unmet
     unmet =
         decided-accepted (readTests e x k s i window) (outcome (Accepted (markLength (mark e s i))) (opened x e s i)) (λ a. outcome a (zeros (length window))) (outcome (Accepted n) v)
         (next (no WrongKey (lit≤ tt)) (next (no TwinKeys (lit≤ tt)) (next (no WrongSpan (lit≤ tt)) (next (no (UnfitSheet (firstFault s)) (lit≤ tt)) (next (no OtherKeyClass (lit≤ tt))
-        (next (no NoSuchSlot (lit≤ tt)) (next (no Blank (lit≤ tt)) (next (no (Altered i (change x e s i)) (lit≤ tt)) end)))))))) h
+        (next (no OtherKeys (lit≤ tt)) (next (no NoSuchSlot (lit≤ tt)) (next (no Blank (lit≤ tt)) (next (no (Altered i (change x e s i)) (lit≤ tt)) end))))))))) h
 
     is : outcome (Accepted (markLength (mark e s i))) (opened x e s i) ≡ outcome (Accepted n) v
     is = sym (decided-unmet (readTests e x k s i window) _ _ unmet) ∙ h
 
     go : Unmet (readTests e x k s i window) → Read e x k s i n v
-    go (next t₁ (next t₂ (next t₃ (next t₄ (next t₅ (next t₆ (next t₉ (next t₁₀ end)))))))) =
+    go (next t₁ (next t₂ (next t₃ (next t₄ (next t₅ (next t₁₄ (next t₆ (next t₉ (next t₁₀ end))))))))) =
         record {
           keys = next t₁ (next t₂ end);
           fits = not-false (fitIn e s) t₄;

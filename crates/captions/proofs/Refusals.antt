@@ -8,24 +8,25 @@ use native.Mathlib.Omega.{arith}
 use lib.Dec.{eqb, lit≤}
 use lib.ListN.{length, getD, drop, replicate}
 use lib.Seq.{getD-drop}
-use borrow.Author.Tests.{eqb-true, leb-false, not-true, not-false}
-use Rattle.octets.specs.Bytes.{number, zeros, allZero, same, allBelow, be}
+use borrow.Author.Tests.{eq-eqb, ne-eqb, eqb-true, leb-false, not-true, not-false}
+use Rattle.octets.specs.Bytes.{if_then_else_, number, zeros, allZero, same, allBelow, be}
 use Rattle.octets.specs.Outcome.{decided}
 use Rattle.octets.specs.Clauses.{Answers, Exactly, Each, none, and}
 use Rattle.octets.proofs.Clauses.{Reflects, reflects-not, reflects-and, reflects-or, reflects-as, reflects-eqb, reflects-leb, reflects-ltb, reflects-same, Means, Refuses, decided-exactly, decided-refused, decided-zero}
 use Rattle.octets.proofs.Compare.{same-is, same-eq}
 use Rattle.octets.proofs.Zeros.{allZero-is, getD-zeros}
 use Rattle.cipher.specs.Key.{mcryptonClass, classKnown, keyBytes, sheetKeyLength}
-use Rattle.layout.specs.Layout.{Edition, newEdition, editionOf, rule1, slots, keyClass, editionByte, lastWrite, slotCount, sheetSize, markAt, fieldAt, markNumber, markLength, markCheck, mark, field, blankSlot, fitSlot, fitIn, fit, blankSheet}
-use Rattle.layout.specs.Rules.{MeetsLayout}
+use Rattle.layout.specs.Layout.{Edition, newEdition, editionOf, rule1, rule3, slots, keyClass, editionByte, lastWrite, serial, storedMark, slotCount, sheetSize, markAt, fieldAt, markNumber, markLength, markCheck, mark, field, blankSlot, fitSlot, fitIn, fit, blankSheet}
+use Rattle.layout.specs.Rules.{Words, MeetsLayout}
+use Rattle.layout.proofs.Header.{edition-cases}
 use Rattle.layout.proofs.Fits.{fit-rules}
 use Rattle.layout.proofs.Meaning.{reflects-fit, reflects-blank, reflects-words}
 use Rattle.captions.specs.Answers.{Outcome, answerNumber, answerLength, outcome}
-use Rattle.captions.specs.Captions.{Keys, pair, Ciphers, loadedFor, checkOf, opened, altered}
-use Rattle.captions.specs.Calls.{wrongKeys, otherClass, keyTests, captionTests, classTests, sheetTests, windowTests, openTests, writeTests, clearTests, readTests, blankTests, writingWith, clearingWith, readingWith, writing, clearing, reading, blanking}
-use Rattle.captions.specs.Refusals.{KeyLength, eight, twelve, sixteen, RightKeys, IsAltered, check-differs, byte-left, writeClauses, clearClauses, readClauses, blankClauses, Leaves, WriteOf, ClearOf, ReadOf, BlankOf, SheetRefusals}
+use Rattle.captions.specs.Captions.{Keys, pair, Ciphers, loadedFor, markFor, keyMark, otherKeys, checkOf, opened, altered}
+use Rattle.captions.specs.Calls.{wrongKeys, otherClass, keyTests, captionTests, classTests, sheetTests, windowTests, openTests, writeTests, clearTests, readTests, blankTests, writingWith, clearingWith, readingWith, blankingWith, writing, clearing, reading, blanking}
+use Rattle.captions.specs.Refusals.{KeyLength, eight, twelve, sixteen, RightKeys, RightWords, OtherMark, IsAltered, check-differs, byte-left, writeClauses, clearClauses, readClauses, blankClauses, Leaves, WriteOf, ClearOf, ReadOf, BlankOf, SheetRefusals}
 use Rattle.captions.specs.declared.Answer.{Answer}
-use Rattle.captions.specs.declared.Answer.the-variants.{Accepted, WrongKey, TwinKeys, WrongSpan, UnfitSheet, OtherKeyClass, NoSuchSlot, Overlong, Worn, Blank, Altered}
+use Rattle.captions.specs.declared.Answer.the-variants.{Accepted, WrongKey, TwinKeys, WrongSpan, UnfitSheet, OtherKeyClass, NoSuchSlot, Overlong, Worn, Blank, Altered, OtherKeys}
 
 -- ---- the keys
 
@@ -60,6 +61,18 @@ reflects-unfit s = reflects-not (reflects-fit s)
 pub reflects-class : (k : Keys) (s : List ℕ) → Reflects (otherClass k s) (length (k .sealing) ≡ keyBytes (keyClass s) → ⊥)
 unfolding otherClass
 reflects-class k s = reflects-not (reflects-eqb (length (k .sealing)) (keyBytes (keyClass s)))
+
+-- edition 3 alone has a key mark
+keyed-three : (s : List ℕ) → editionOf s .keyed ≡ eqb (editionByte s) 3
+keyed-three s =
+    edition-cases (λ e. e .keyed ≡ eqb (editionByte s) 3) s (λ f g. sym (ne-eqb (editionByte s) 3 g)) (λ h. sym (ne-eqb (editionByte s) 3 (λ g. omega (arith, h, g)))) (λ h. sym (eq-eqb (editionByte s) 3 h))
+
+pub reflects-mark : (x : Ciphers) (s : List ℕ) → Reflects (otherKeys x (editionOf s) s) (OtherMark x s)
+unfolding otherKeys
+reflects-mark x s =
+    rw (keyed-three s)
+    (reflects-as (λ h. record { edition = h .0; differs = h .1 }) (λ m. (m .edition, m .differs))
+    (reflects-and (reflects-eqb (editionByte s) 3) (reflects-not (reflects-same (markFor x s) (storedMark s)))))
 
 -- a byte that isn't zero, where not all are
 record Left (v : List ℕ) (n : ℕ) : Type 0 where
@@ -118,13 +131,17 @@ write-means k s i c = (
         reflects-class k s,
         refl,
         λ t₅. (
-          reflects-leb (slots s) i,
+          reflects-mark (loadedFor (keyClass s) k) s,
           refl,
-          λ t₆. (
-            reflects-ltb 192 (length c),
+          λ t₁₄. (
+            reflects-leb (slots s) i,
             refl,
-            λ t₇.
-                (reflects-eqb (lastWrite s) 4294967295, refl, λ t₈. tt),
+            λ t₆. (
+              reflects-ltb 192 (length c),
+              refl,
+              λ t₇.
+                  (reflects-eqb (lastWrite s) 4294967295, refl, λ t₈. tt),
+            ),
           ),
         ),
       ),
@@ -154,13 +171,17 @@ read-means k s i window = (
           reflects-class k s,
           refl,
           λ t₅. (
-            reflects-leb (slots s) i,
+            reflects-mark (loadedFor (keyClass s) k) s,
             refl,
-            λ t₆. (
-              reflects-blank (editionOf s) s (fit-rules (editionOf s) s (not-false _ t₄)) i (leb-false (slots s) i t₆),
+            λ t₁₄. (
+              reflects-leb (slots s) i,
               refl,
-              λ t₉.
-                  (reflects-altered (loadedFor (keyClass s) k) (editionOf s) s i, refl, λ t₁₀. tt),
+              λ t₆. (
+                reflects-blank (editionOf s) s (fit-rules (editionOf s) s (not-false _ t₄)) i (leb-false (slots s) i t₆),
+                refl,
+                λ t₉.
+                    (reflects-altered (loadedFor (keyClass s) k) (editionOf s) s i, refl, λ t₁₀. tt),
+              ),
             ),
           ),
         ),
@@ -169,17 +190,30 @@ read-means k s i window = (
   ),
 )
 
-blank-means : (s : List ℕ) (n t : ℕ) → Means answerNumber (blankTests s n t) (blankClauses s n t)
+-- wrong keys, or a wrong t
+reflects-keys-words : (k : Keys) (t : ℕ) → Reflects (wrongKeys k || not (mcryptonClass t)) (RightWords k t → ⊥)
+reflects-keys-words k t = go (wrongKeys k) (not (mcryptonClass t)) (reflects-keys k) (reflects-not (reflects-words t))
+  where
+    go : (a b : Bool) → Reflects a (RightKeys k → ⊥) → Reflects b (Words t → ⊥) → Reflects (a || b) (RightWords k t → ⊥)
+    go true b p q = record { holds = λ e r. p .holds refl (r .keys); fails = λ e. absurd (false≢true (sym e)) }
+    go false true p q = record { holds = λ e r. q .holds refl (r .words); fails = λ e. absurd (false≢true (sym e)) }
+    go false false p q = record { holds = λ e. absurd (false≢true e); fails = λ e h. p .fails refl (λ r. q .fails refl (λ w. h (record { keys = r; words = w }))) }
+
+blank-means : (k : Keys) (s : List ℕ) (n t : ℕ) → Means answerNumber (blankTests k s n t) (blankClauses k s n t)
 unfolding Means blankTests blankClauses answerNumber classKnown slotCount sheetSize
-blank-means s n t = (
-  reflects-not (reflects-words t),
+blank-means k s n t = (
+  reflects-keys-words k t,
   refl,
   λ t₁. (
-    reflects-not
-        (reflects-as (λ h. record { from-1 = h .0 .0; to-256 = h .0 .1; size = h .1 }) (λ b. ((b .from-1, b .to-256), b .size))
-        (reflects-and (reflects-and (reflects-leb 1 n) (reflects-leb n 256)) (reflects-eqb (length s) (newEdition .header + 208 * n)))),
+    reflects-same (k .sealing) (k .checking),
     refl,
-    λ t₃. tt,
+    λ t₂. (
+      reflects-not
+          (reflects-as (λ h. record { from-1 = h .0 .0; to-256 = h .0 .1; size = h .1 }) (λ b. ((b .from-1, b .to-256), b .size))
+          (reflects-and (reflects-and (reflects-leb 1 n) (reflects-leb n 256)) (reflects-eqb (length s) (newEdition .header + 208 * n)))),
+      refl,
+      λ t₃. (reflects-not (reflects-eqb (length (k .sealing)) (keyBytes t)), refl, λ t₅. tt),
+    ),
   ),
 )
 
@@ -198,6 +232,7 @@ refusal-length Overlong h = refl
 refusal-length Worn h = refl
 refusal-length Blank h = refl
 refusal-length (Altered i c) h = refl
+refusal-length OtherKeys h = refl
 
 pub leaves : (a : Answer) (bytes : List ℕ) → (answerNumber a ≡ 0 → ⊥) → Leaves (outcome a bytes) bytes
 unfolding outcome
@@ -231,20 +266,21 @@ module _ (s : List ℕ) (i : ℕ) where
   unfolding clearing clearingWith outcome answerNumber
   clear-refused = decided-refused answerNumber (λ (o : Outcome). o .number) _ _ refl (λ a. refl) (λ o. Leaves o s) (λ a. leaves a s) _
 
-module _ (s : List ℕ) (n t x : ℕ) where
-  blank-exactly : Exactly ((blanking s n t x) .number) (blankClauses s n t)
-  unfolding blanking outcome answerNumber
-  blank-exactly = decided-exactly answerNumber (λ (o : Outcome). o .number) _ _ refl (λ a. refl) _ _ (blank-means s n t)
+module _ (k : Keys) (s : List ℕ) (n t v : ℕ) where
+  blank-exactly : Exactly ((blanking k s n t v) .number) (blankClauses k s n t)
+  unfolding blanking blankingWith outcome answerNumber
+  blank-exactly = decided-exactly answerNumber (λ (o : Outcome). o .number) _ _ refl (λ a. refl) _ _ (blank-means k s n t)
 
-  blank-refused : ((blanking s n t x) .number ≡ 0 → ⊥) → Leaves (blanking s n t x) s
-  unfolding blanking outcome answerNumber
+  blank-refused : ((blanking k s n t v) .number ≡ 0 → ⊥) → Leaves (blanking k s n t v) s
+  unfolding blanking blankingWith outcome answerNumber
   blank-refused = decided-refused answerNumber (λ (o : Outcome). o .number) _ _ refl (λ a. refl) (λ o. Leaves o s) (λ a. leaves a s) _
 
-  blank-accepted : (blanking s n t x) .number ≡ 0 → Leaves (blanking s n t x) (blankSheet n t x)
-  unfolding blanking blankTests outcome answerNumber answerLength Refuses
+  blank-accepted : (blanking k s n t v) .number ≡ 0 → Leaves (blanking k s n t v) (blankSheet n t v (keyMark (loadedFor t k) n t v))
+  unfolding blanking blankingWith blankTests outcome answerNumber answerLength Refuses
   blank-accepted =
-      decided-zero answerNumber (λ (o : Outcome). o .number) _ _ refl (λ a. refl) (λ o. Leaves o (blankSheet n t x)) (record { len = refl; bytes-are = refl }) _
-      (λ e. omega (arith, e), ((λ e. omega (arith, e)), tt))
+      decided-zero answerNumber (λ (o : Outcome). o .number) _ _ refl (λ a. refl) (λ o. Leaves o (blankSheet n t v (keyMark (loadedFor t k) n t v)))
+      (record { len = refl; bytes-are = refl }) _
+      (λ e. omega (arith, e), ((λ e. omega (arith, e)), ((λ e. omega (arith, e)), ((λ e. omega (arith, e)), tt))))
 
 -- ---- each number is met: keys of zeros and ones, a sheet of one slot, and the same worn
 
@@ -252,21 +288,67 @@ module _ (s : List ℕ) (n t x : ℕ) where
 sheet-with : ℕ → List ℕ
 sheet-with w = 0 ∷ 1 ∷ 4 ∷ 1 ∷ (be 4 w ++ zeros 208)
 
-keys-of : ℕ → Keys
+pub keys-of : ℕ → Keys
 keys-of n = pair (zeros n) (replicate n 1)
 
-every-write : Each WriteOf (0 ∷ 1 ∷ 2 ∷ 4 ∷ 5 ∷ 6 ∷ 7 ∷ 8 ∷ [])
-unfolding sheet-with keys-of writing writingWith writeTests keyTests sheetTests classTests captionTests decided outcome answerNumber wrongKeys otherClass sheetKeyLength keyBytes mcryptonClass same number zeros be allZero allBelow slots keyClass editionByte lastWrite rule1 editionOf sheetSize markAt fieldAt slotCount mark field blankSlot fitSlot fitIn
+-- a sheet of edition 3 with one slot, every byte of whose key mark is a
+pub keyed-with : ℕ → List ℕ
+keyed-with a = 0 ∷ 1 ∷ 4 ∷ 3 ∷ 0 ∷ 0 ∷ 0 ∷ 0 ∷ 0 ∷ 0 ∷ a ∷ a ∷ a ∷ a ∷ a ∷ a ∷ zeros 208
+
+-- six bytes that aren't the key mark m: zeros, or else ones
+unlike-byte : List ℕ → ℕ
+unlike-byte m = if same m (replicate 6 0) then 1 else 0
+
+unlike-differs : (m : List ℕ) → same m (replicate 6 (unlike-byte m)) ≡ false
+unfolding unlike-byte
+unlike-differs m = go (same m (replicate 6 0)) refl
+  where
+    go : (b : Bool) → same m (replicate 6 0) ≡ b → same m (replicate 6 (if b then 1 else 0)) ≡ false
+    go true h = rw (same-is m (replicate 6 0) h) (unfold same in refl)
+    go false h = h
+
+-- the key mark of the keys on such a sheet
+own-mark : List ℕ
+own-mark = keyMark (loadedFor 4 (keys-of 8)) 1 4 0
+
+module _ (a : ℕ) (d : same own-mark (replicate 6 a) ≡ false) where
+  other-write : (writing (keys-of 8) (keyed-with a) 0 []) .number ≡ 14
+  unfolding own-mark keyed-with keys-of writing writingWith writeTests keyTests sheetTests classTests captionTests decided outcome answerNumber wrongKeys otherClass otherKeys markFor storedMark serial sheetKeyLength keyBytes mcryptonClass same number zeros allZero allBelow slots keyClass editionByte lastWrite rule3 editionOf sheetSize markAt fieldAt slotCount mark field blankSlot fitSlot fitIn
+  other-write = rw d
+
+  other-read : (reading (keys-of 8) (keyed-with a) 0 (zeros 192)) .number ≡ 14
+  unfolding own-mark keyed-with keys-of reading readingWith readTests openTests windowTests keyTests sheetTests classTests decided outcome answerNumber wrongKeys otherClass otherKeys markFor storedMark serial sheetKeyLength keyBytes mcryptonClass same number zeros allZero allBelow slots keyClass editionByte lastWrite rule3 editionOf sheetSize markAt fieldAt slotCount mark field blankSlot fitSlot fitIn
+  other-read = rw d
+
+-- a mark that isn't theirs, on a sheet that meets the layout
+pub other : ℕ
+other = unlike-byte own-mark
+
+pub keyed-meets : MeetsLayout (keyed-with other)
+unfolding keyed-with fit fitIn editionOf rule3 mcryptonClass number zeros allZero allBelow slots keyClass editionByte lastWrite sheetSize markAt fieldAt slotCount mark field blankSlot fitSlot
+keyed-meets = reflects-fit (keyed-with other) .holds refl
+
+pub keyed-slots : slots (keyed-with other) ≡ 1
+unfolding keyed-with slots number
+keyed-slots = refl
+
+pub other-reads : (reading (keys-of 8) (keyed-with other) 0 (zeros 192)) .number ≡ 14
+unfolding other
+other-reads = other-read other (unlike-differs own-mark)
+
+every-write : Each WriteOf (0 ∷ 1 ∷ 2 ∷ 4 ∷ 5 ∷ 14 ∷ 6 ∷ 7 ∷ 8 ∷ [])
+unfolding other sheet-with keys-of writing writingWith writeTests keyTests sheetTests classTests captionTests decided outcome answerNumber wrongKeys otherClass otherKeys sheetKeyLength keyBytes mcryptonClass same number zeros be allZero allBelow slots keyClass editionByte lastWrite rule1 editionOf sheetSize markAt fieldAt slotCount mark field blankSlot fitSlot fitIn
 every-write =
     and (record { keys = keys-of 8; sheet = sheet-with 0; slot = 0; caption = []; answers = refl })
     (and (record { keys = keys-of 7; sheet = []; slot = 0; caption = []; answers = refl })
     (and (record { keys = pair (zeros 8) (zeros 8); sheet = []; slot = 0; caption = []; answers = refl })
     (and (record { keys = keys-of 8; sheet = []; slot = 0; caption = []; answers = refl })
     (and (record { keys = keys-of 12; sheet = sheet-with 0; slot = 0; caption = []; answers = refl })
+    (and (record { keys = keys-of 8; sheet = keyed-with other; slot = 0; caption = []; answers = other-write other (unlike-differs own-mark) })
     (and (record { keys = keys-of 8; sheet = sheet-with 0; slot = 1; caption = []; answers = refl })
     (and (record { keys = keys-of 8; sheet = sheet-with 0; slot = 0; caption = zeros 193; answers = refl })
     (and (record { keys = keys-of 8; sheet = sheet-with 4294967295; slot = 0; caption = []; answers = refl })
-    none)))))))
+    none))))))))
 
 every-clear : Each ClearOf (0 ∷ 4 ∷ 6 ∷ [])
 unfolding sheet-with clearing clearingWith clearTests decided outcome answerNumber number zeros be allZero allBelow slots keyClass editionByte lastWrite rule1 mcryptonClass editionOf sheetSize markAt fieldAt slotCount mark field blankSlot fitSlot fitIn
@@ -276,25 +358,28 @@ every-clear =
     (and (record { sheet = sheet-with 0; slot = 1; answers = refl })
     none))
 
-every-read : Each ReadOf (1 ∷ 2 ∷ 3 ∷ 4 ∷ 5 ∷ 6 ∷ 9 ∷ [])
-unfolding sheet-with keys-of reading readingWith readTests openTests windowTests keyTests sheetTests classTests decided outcome answerNumber wrongKeys otherClass sheetKeyLength keyBytes same number zeros be allZero allBelow slots keyClass editionByte lastWrite rule1 mcryptonClass editionOf sheetSize markAt fieldAt slotCount mark field blankSlot fitSlot fitIn
+every-read : Each ReadOf (1 ∷ 2 ∷ 3 ∷ 4 ∷ 5 ∷ 14 ∷ 6 ∷ 9 ∷ [])
+unfolding other sheet-with keys-of reading readingWith readTests openTests windowTests keyTests sheetTests classTests decided outcome answerNumber wrongKeys otherClass otherKeys sheetKeyLength keyBytes same number zeros be allZero allBelow slots keyClass editionByte lastWrite rule1 mcryptonClass editionOf sheetSize markAt fieldAt slotCount mark field blankSlot fitSlot fitIn
 every-read =
     and (record { keys = keys-of 7; sheet = []; slot = 0; window = []; answers = refl })
     (and (record { keys = pair (zeros 8) (zeros 8); sheet = []; slot = 0; window = []; answers = refl })
     (and (record { keys = keys-of 8; sheet = []; slot = 0; window = zeros 191; answers = refl })
     (and (record { keys = keys-of 8; sheet = []; slot = 0; window = zeros 192; answers = refl })
     (and (record { keys = keys-of 12; sheet = sheet-with 0; slot = 0; window = zeros 192; answers = refl })
+    (and (record { keys = keys-of 8; sheet = keyed-with other; slot = 0; window = zeros 192; answers = other-reads })
     (and (record { keys = keys-of 8; sheet = sheet-with 0; slot = 1; window = zeros 192; answers = refl })
     (and (record { keys = keys-of 8; sheet = sheet-with 0; slot = 0; window = zeros 192; answers = refl })
-    none))))))
+    none)))))))
 
-every-blank : Each BlankOf (0 ∷ 1 ∷ 3 ∷ [])
-unfolding blanking blankTests decided outcome answerNumber classKnown mcryptonClass slotCount sheetSize zeros
+every-blank : Each BlankOf (0 ∷ 1 ∷ 2 ∷ 3 ∷ 5 ∷ [])
+unfolding keys-of blanking blankingWith blankTests decided outcome answerNumber wrongKeys sheetKeyLength keyBytes same classKnown mcryptonClass slotCount sheetSize zeros
 every-blank =
-    and (record { sheet = zeros 224; count = 1; words = 4; serial = 1; answers = refl })
-    (and (record { sheet = zeros 224; count = 1; words = 5; serial = 1; answers = refl })
-    (and (record { sheet = zeros 216; count = 1; words = 4; serial = 1; answers = refl })
-    none))
+    and (record { keys = keys-of 8; sheet = zeros 224; count = 1; words = 4; serial = 1; answers = refl })
+    (and (record { keys = keys-of 8; sheet = zeros 224; count = 1; words = 5; serial = 1; answers = refl })
+    (and (record { keys = pair (zeros 8) (zeros 8); sheet = zeros 224; count = 1; words = 4; serial = 1; answers = refl })
+    (and (record { keys = keys-of 8; sheet = zeros 216; count = 1; words = 4; serial = 1; answers = refl })
+    (and (record { keys = keys-of 8; sheet = zeros 224; count = 1; words = 6; serial = 1; answers = refl })
+    none))))
 
 -- ---- the check
 
@@ -311,7 +396,8 @@ accepted-unaltered k s i window h =
     let a₃ = past 3 (lit≤ tt) (a₂ .1) in
     let a₄ = past 4 (lit≤ tt) (a₃ .1) in
     let a₅ = past 5 (lit≤ tt) (a₄ .1) in
-    let a₆ = past 6 (lit≤ tt) (a₅ .1) in
+    let a₁₄ = past 14 (lit≤ tt) (a₅ .1) in
+    let a₆ = past 6 (lit≤ tt) (a₁₄ .1) in
     let a₉ = past 9 (lit≤ tt) (a₆ .1) in
     (past 10 (lit≤ tt) (a₉ .1)) .0
 

@@ -1,7 +1,8 @@
--- A sheet follows the plain model: a relation between a sheet's bytes and a model that each call keeps, then any list of calls.
+-- A sheet follows the plain model: a relation between a sheet's bytes and a model that each call keeps, then any list of calls, strangers' writes among them.
 use Prim.Native.Nat.{ℕ, _+_, _<_}
 use mathlib.Core.Path.{_≡_, refl, sym, ap, _∙_, subst}
-use mathlib.Core.Bool.{not}
+use mathlib.Core.Logic.{_≢_}
+use mathlib.Core.Bool.{Bool, true, false, not}
 use mathlib.Core.List.{List, [], _∷_, _++_}
 use native.Mathlib.Decide.{ℕ-discrete}
 use native.Mathlib.Omega.{arith}
@@ -10,16 +11,18 @@ use lib.Dec.{leb, ltb, eqb}
 use lib.ListN.{length, getD, set, length-set, length-replicate, getD-replicate}
 use lib.Seq.{getD-set-same, getD-set-other}
 use borrow.Author.Tests.{leb-false, ltb-false, eqb-false}
-use Rattle.octets.specs.Bytes.{Bytes}
-use Rattle.layout.specs.Layout.{Edition, slots, lastWrite}
+use Rattle.octets.specs.Bytes.{if_then_else_, Bytes, zeros, same}
+use Rattle.octets.specs.Outcome.{decided}
+use Rattle.layout.specs.Layout.{Edition, slots, lastWrite, fitIn}
 use Rattle.captions.specs.Answers.{Outcome, answerNumber, answerLength, outcome}
-use Rattle.captions.specs.Captions.{Keys, Ciphers, written, cleared}
-use Rattle.captions.specs.Calls.{unfitRow, keyTests, classTests, sheetTests, captionTests, writeTests, clearTests, writingWith, clearingWith, readingWith}
+use Rattle.captions.specs.Captions.{Keys, Ciphers, otherKeys, written, cleared}
+use Rattle.captions.specs.Calls.{wrongKeys, otherClass, unfitRow, keyTests, classTests, pairTests, sheetTests, windowTests, openTests, captionTests, writeTests, readTests, clearTests, writingWith, clearingWith, readingWith}
 use Rattle.captions.specs.Runs.{Reply, finally}
 use Rattle.captions.specs.Model.{Call, writes, clears, Page, blank, holds, Model, newModel, page, answered, modelStep}
-use Rattle.captions.specs.Claim.{stepped, stepWith, Captions, none, write, clear, shown, SameHeader, Regular, Sound, Fits, SheetsFollowModel}
+use Rattle.captions.specs.Turns.{Turn, own, stranger, ownCalls, EachStranger, none as no-stranger, past, met, turnModel}
+use Rattle.captions.specs.Claim.{stepped, stepWith, Captions, none, write, clear, shown, SameHeader, Regular, Sound, Fits, TurnedDown, SheetsFollowModel}
 use Rattle.captions.specs.declared.Answer.{Answer}
-use Rattle.captions.specs.declared.Answer.the-variants.{Accepted, NoSuchSlot, Overlong, Worn}
+use Rattle.captions.specs.declared.Answer.the-variants.{Accepted, WrongKey, TwinKeys, OtherKeyClass, NoSuchSlot, Overlong, Worn, OtherKeys}
 use Rattle.captions.proofs.Runs.{Every, done, more, same-replies, related-finally}
 use Rattle.captions.proofs.Tables.{end, next, unmet-append, past-rows, row-beside, rows-end}
 use Rattle.captions.proofs.Store.{header-refl, header-trans, slots-kept}
@@ -132,12 +135,46 @@ module _ (e : Edition) (x : Ciphers) (k : Keys) (s : List ℕ) (g : Fits e x k s
         slot = λ i h window l. rw (getD-replicate (slots s) i blank blank h) (blank-read e x k s g i window h l (unused-blank e s (rules e x k s g) unused i h));
       }
 
+-- ---- the turns of a list
+
+-- a model that is fed the pair's calls alone
+model-own : (number : Keys → ℕ) (turns : List Turn) (m : Model) → finally (turnModel number) turns m ≡ finally modelStep (ownCalls turns) m
+unfolding finally turnModel ownCalls
+model-own number [] m = refl
+model-own number (own c ∷ turns) m = model-own number turns ((modelStep c m) .1)
+model-own number (stranger k i c ∷ turns) m = model-own number turns m
+
+-- a turn of the pair's has a caption of bytes, and a stranger's is turned down
+abbrev TurnOk : (Keys → Type 0) → Turn → Type 0
+TurnOk P (own c) = CallBytes c
+TurnOk P (stranger k i c) = P k
+
+every-turn : {P : Keys → Type 0} (turns : List Turn) → Every CallBytes (ownCalls turns) → EachStranger P turns → Every (TurnOk P) turns
+unfolding ownCalls
+every-turn [] h no-stranger = done
+every-turn (own c ∷ turns) (more b h) (past g) = more b (every-turn turns h g)
+every-turn (stranger k i c ∷ turns) h (met p g) = more p (every-turn turns h g)
+
+-- where strangers leave the state, it is what the pair's calls alone make of it
+own-alone : {S T : Type 0} (step : Turn → S → Reply × S) (model : Turn → T → Reply × T) (P : Turn → Type 0) (R : S → T → Type 0)
+    → ((k : Keys) (i : ℕ) (c : List ℕ) (s : S) (m : T) → P (stranger k i c) → R s m → (step (stranger k i c) s) .1 ≡ s)
+    → ((t : Turn) (s : S) (m : T) → P t → R s m → R ((step t s) .1) ((model t m) .1))
+    → (turns : List Turn) (s : S) (m : T) → Every P turns → R s m → finally step turns s ≡ finally (λ c. step (own c)) (ownCalls turns) s
+unfolding finally ownCalls
+own-alone step model P R left kept [] s m done r = refl
+own-alone step model P R left kept (own c ∷ turns) s m (more p h) r =
+    own-alone step model P R left kept turns ((step (own c) s) .1) ((model (own c) m) .1) h (kept (own c) s m p r)
+own-alone step model P R left kept (stranger k i c ∷ turns) s m (more p h) r =
+    own-alone step model P R left kept turns ((step (stranger k i c) s) .1) ((model (stranger k i c) m) .1) h (kept (stranger k i c) s m p r)
+    ∙ ap (finally (λ c. step (own c)) (ownCalls turns)) (left k i c s m p r)
+
 -- ---- the theorem
 
 pub sheets-follow-model : SheetsFollowModel
-sheets-follow-model e x k step s calls reg ok g unused cap is =
+sheets-follow-model e x k step number s turns reg ok g unused cap is down =
     record {
-      answers = same-replies step modelStep CallBytes (Shows e x k s) replied kept s (newModel (slots s)) (every-caption cap) first;
+      answers = same-replies step (turnModel number) (TurnOk (TurnedDown e step number s)) (Shows e x k s) replied kept s (newModel (slots s)) every first;
+      alone = own-alone step (turnModel number) (TurnOk (TurnedDown e step number s)) (Shows e x k s) (λ k′ i c s′ m b r. rw (b i c s′ (r .fits .fits) (r .header))) kept turns s (newModel (slots s)) every first;
       last = final .last;
       fits = final .fits;
       header = final .header;
@@ -147,11 +184,44 @@ sheets-follow-model e x k step s calls reg ok g unused cap is =
     first : Shows e x k s s (newModel (slots s))
     first = new-shows e x k s g unused
 
-    replied : (c : Call) (s′ : List ℕ) (m : Model) → CallBytes c → Shows e x k s s′ m → (step c s′) .0 ≡ (modelStep c m) .0
-    replied c s′ m b r = rw (is c s′ (r .header)) (same-reply e reg x ok k s s′ m r c b)
+    every : Every (TurnOk (TurnedDown e step number s)) turns
+    every = every-turn turns (every-caption cap) down
 
-    kept : (c : Call) (s′ : List ℕ) (m : Model) → CallBytes c → Shows e x k s s′ m → Shows e x k s ((step c s′) .1) ((modelStep c m) .1)
-    kept c s′ m b r = rw (is c s′ (r .header)) (call-shows e reg x ok k s s′ m r c b)
+    replied : (t : Turn) (s′ : List ℕ) (m : Model) → TurnOk (TurnedDown e step number s) t → Shows e x k s s′ m → (step t s′) .0 ≡ (turnModel number t m) .0
+    replied (own c) s′ m b r = unfold turnModel in rw (is c s′ (r .header)) (same-reply e reg x ok k s s′ m r c b)
+    replied (stranger k′ i c) s′ m b r = unfold turnModel in rw (b i c s′ (r .fits .fits) (r .header))
 
-    final : Shows e x k s (finally step calls s) (finally modelStep calls (newModel (slots s)))
-    final = related-finally step modelStep CallBytes (Shows e x k s) replied kept s (newModel (slots s)) (every-caption cap) first
+    kept : (t : Turn) (s′ : List ℕ) (m : Model) → TurnOk (TurnedDown e step number s) t → Shows e x k s s′ m → Shows e x k s ((step t s′) .1) ((turnModel number t m) .1)
+    kept (own c) s′ m b r = unfold turnModel in rw (is c s′ (r .header)) (call-shows e reg x ok k s s′ m r c b)
+    kept (stranger k′ i c) s′ m b r = unfold turnModel in rw (b i c s′ (r .fits .fits) (r .header)) r
+
+    final : Shows e x k s (finally step turns s) (finally modelStep (ownCalls turns) (newModel (slots s)))
+    final =
+        subst (Shows e x k s (finally step turns s)) (model-own number turns (newModel (slots s)))
+        (related-finally step (turnModel number) (TurnOk (TurnedDown e step number s)) (Shows e x k s) replied kept s (newModel (slots s)) every first)
+
+-- ---- a stranger
+
+-- a table that begins with 1, 2, 5 and 14, of which one applies; a refusal leaves b
+first-of-pair : (t₁ t₂ t₅ t₁₄ : Bool) (b : List ℕ) (rest : Outcome) → _≢_ {A = ℕ} (if t₁ then 1 else if t₂ then 2 else if t₅ then 5 else if t₁₄ then 14 else 0) 0
+    → stepped (if t₁ then outcome WrongKey b else if t₂ then outcome TwinKeys b else if t₅ then outcome OtherKeyClass b else if t₁₄ then outcome OtherKeys b else rest)
+    ≡ (answered (if t₁ then 1 else if t₂ then 2 else if t₅ then 5 else if t₁₄ then 14 else 0), b)
+unfolding outcome answered answerNumber answerLength
+first-of-pair true t₂ t₅ t₁₄ b rest n = refl
+first-of-pair false true t₅ t₁₄ b rest n = refl
+first-of-pair false false true t₁₄ b rest n = refl
+first-of-pair false false false true b rest n = refl
+first-of-pair false false false false b rest n = absurd (n refl)
+
+-- keys that meet 1, 2, 5 or 14 with a fit sheet get that number
+module _ (e : Edition) (x : Ciphers) (k : Keys) (s : List ℕ) (i : ℕ) (fits : fitIn e s ≡ true) (meet : decided (pairTests e x k s) 0 answerNumber ≢ 0) where
+  -- a write changes nothing
+  pub turned-down : (c : List ℕ) → stepped (writingWith e x k s i c) ≡ (answered (decided (pairTests e x k s) 0 answerNumber), s)
+  unfolding writingWith writeTests pairTests keyTests sheetTests classTests captionTests decided answerNumber
+  turned-down c = rw fits (first-of-pair (wrongKeys k) (same (k .sealing) (k .checking)) (otherClass k s) (otherKeys x e s) s _ meet)
+
+  -- a read zeroes its window
+  pub read-down : (window : List ℕ) → length window ≡ 192 → stepped (readingWith e x k s i window) ≡ (answered (decided (pairTests e x k s) 0 answerNumber), zeros 192)
+  unfolding readingWith readTests openTests windowTests pairTests keyTests sheetTests classTests decided answerNumber
+  read-down window l =
+      rw (l, fits) (first-of-pair (wrongKeys k) (same (k .sealing) (k .checking)) (otherClass k s) (otherKeys x e s) (zeros 192) _ meet)

@@ -23,7 +23,7 @@ use Rattle.captions.specs.Calls.{keyTests, otherClass, classTests, sheet
 use Rattle.captions.specs.Claim.{SameHeader, Regular, Sound}
 use Rattle.captions.specs.Outside.{Off, OffSlot}
 use Rattle.captions.specs.declared.Answer.{Answer}
-use Rattle.captions.specs.declared.Answer.the-variants.{Accepted, WrongKey, TwinKeys, UnfitSheet, OtherKeyClass, NoSuchSlot, Overlong, Worn}
+use Rattle.captions.specs.declared.Answer.the-variants.{Accepted, WrongKey, TwinKeys, UnfitSheet, OtherKeyClass, NoSuchSlot, Overlong, Worn, OtherKeys}
 use Rattle.captions.proofs.Tables.{Unmet, end, next, decided-unmet, decided-accepted}
 use Rattle.captions.proofs.Store.{Stored, store-slot, store-last}
 use Rattle.captions.proofs.Slot.{sealed-blocks, slotMark-block}
@@ -77,13 +77,13 @@ accepted-write e x k s i c n s′ h = go unmet
     unmet =
         decided-accepted (writeTests e x k s i c) (outcome (Accepted 0) (written x e s i c)) (λ a. outcome a s) (outcome (Accepted n) s′)
         (next (no WrongKey (lit≤ tt)) (next (no TwinKeys (lit≤ tt)) (next (no (UnfitSheet (firstFault s)) (lit≤ tt)) (next (no OtherKeyClass (lit≤ tt))
-        (next (no NoSuchSlot (lit≤ tt)) (next (no Overlong (lit≤ tt)) (next (no Worn (lit≤ tt)) end))))))) h
+        (next (no OtherKeys (lit≤ tt)) (next (no NoSuchSlot (lit≤ tt)) (next (no Overlong (lit≤ tt)) (next (no Worn (lit≤ tt)) end)))))))) h
 
     is : outcome (Accepted n) s′ ≡ outcome (Accepted 0) (written x e s i c)
     is = sym h ∙ decided-unmet (writeTests e x k s i c) _ _ unmet
 
     go : Unmet (writeTests e x k s i c) → Wrote e x k s i c n s′
-    go (next t₁ (next t₂ (next t₄ (next t₅ (next t₆ (next t₇ (next t₈ end))))))) =
+    go (next t₁ (next t₂ (next t₄ (next t₅ (next t₁₄ (next t₆ (next t₇ (next t₈ end)))))))) =
         record {
           keys = next t₁ (next t₂ end);
           fits = not-false (fitIn e s) t₄;

@@ -1,13 +1,13 @@
--- Sealing a caption into a slot and opening it (document 01, "The sheet"), for any block cipher.
+-- Sealing a caption into a slot and opening it (document 01, "The sheet"), and the key mark of a sheet (document 02, request 7), for any block cipher.
 use Prim.Native.Nat.{ℕ, _+_, _-_}
-use mathlib.Core.Bool.{Bool, not, _||_}
+use mathlib.Core.Bool.{Bool, not, _&&_, _||_}
 use mathlib.Core.List.{List, _++_}
-use lib.ListN.{length, drop}
+use lib.ListN.{length, take, drop}
 use Rattle.octets.specs.Bytes.{if_then_else_, be, zeros, allZero, same}
 use Rattle.cipher.specs.Key.{loaded, encrypted, decrypted}
 use Rattle.modes.specs.CBC.{cbcEncrypt, cbcDecrypt}
 use Rattle.modes.specs.CMAC.{cmac}
-use Rattle.layout.specs.Layout.{Edition, lastWrite, markNumber, markLength, markCheck, mark, field, storeSlot, storeLast}
+use Rattle.layout.specs.Layout.{Edition, slots, keyClass, lastWrite, serial, storedMark, markNumber, markLength, markCheck, mark, field, storeSlot, storeLast}
 use Rattle.faults.specs.Faults.{firstSet}
 use Rattle.captions.specs.declared.Change.{Change}
 use Rattle.captions.specs.declared.Change.the-variants.{Check, Byte}
@@ -47,8 +47,20 @@ numbers x y z = be 4 x ++ (be 2 y ++ be 2 z)
 unfoldable pub newMark : ℕ → ℕ → List ℕ → List ℕ
 newMark w len check = numbers w len 0 ++ check
 
+-- the block made of n (2 bytes), t, edition, serial (2), two zero bytes; the edition is 3
+unfoldable pub markBlock : ℕ → ℕ → ℕ → List ℕ
+markBlock n t v = be 2 n ++ (be 1 t ++ (be 1 3 ++ (be 2 v ++ be 2 0)))
+
 module _ (x : Ciphers) where
-  -- the start block: the sealed form of write number (4 bytes), slot (2), and two bytes that are zero in edition 1 and the serial in edition 2
+  -- the key mark: that block is sealed with the sealing key, and the mark is the first six bytes of its CMAC under the checking key
+  unfoldable pub keyMark : ℕ → ℕ → ℕ → List ℕ
+  keyMark n t v = take 6 (cmac (x .M) (x .E (markBlock n t v)))
+
+  -- the one that a sheet with these header fields would have
+  unfoldable pub markFor : List ℕ → List ℕ
+  markFor s = keyMark (slots s) (keyClass s) (serial s)
+
+  -- the start block: the sealed form of write number (4 bytes), slot (2), and two bytes that are zero in edition 1 and the serial from edition 2 on
   unfoldable pub startBlock : ℕ → ℕ → ℕ → List ℕ
   startBlock tail w i = x .E (numbers w i tail)
 
@@ -68,6 +80,10 @@ module _ (x : Ciphers) where
   slotMark w i c f = newMark w (length c) (checkOf w i (length c) f)
 
   module _ (e : Edition) where
+    -- the sheet has a key mark, and it isn't that of these keys
+    unfoldable pub otherKeys : List ℕ → Bool
+    otherKeys s = e .keyed && not (same (markFor s) (storedMark s))
+
     -- a write takes number w and stores it in the header and the mark
     unfoldable pub storedAs : List ℕ → ℕ → ℕ → List ℕ → List ℕ
     storedAs s w i c =

@@ -1,4 +1,4 @@
--- The theorem about lists of calls on a sheet, for any edition and any block cipher: what is asked of them, and what then holds of every list of writes and clears.
+-- The theorem about lists of calls on a sheet, for any edition and any block cipher: what is asked of them, and what then holds of every list of writes, clears and strangers' writes.
 use Prim.Native.Nat.{ℕ, _+_, _≤_, _<_}
 use mathlib.Core.Path.{_≡_}
 use mathlib.Core.Bool.{true}
@@ -13,7 +13,8 @@ use Rattle.captions.specs.Calls.{pairTests, writingWith, clearingWith, r
 use Rattle.captions.specs.declared.Answer.the-variants.{Accepted, Blank}
 use Rattle.captions.specs.declared.Verdict.the-variants.{Pass}
 use Rattle.captions.specs.Runs.{Reply, replies, finally}
-use Rattle.captions.specs.Model.{Call, writes, clears, Page, blank, holds, newModel, page, modelStep}
+use Rattle.captions.specs.Model.{Call, writes, clears, Page, blank, holds, newModel, page, answered, modelStep}
+use Rattle.captions.specs.Turns.{Turn, own, stranger, ownCalls, EachStranger, turnModel}
 
 -- ---- a list of calls on a sheet
 
@@ -46,6 +47,8 @@ pub record SameHeader (h : ℕ) (s s′ : List ℕ) : Type 0 where
 -- of an edition: bytes 0 to 7 are in its header, and its rule and tail are the same for the same header
 pub record Regular (e : Edition) : Type 0 where
   pub header-size : 8 ≤ e .header
+  -- a key mark and the serial before it are in the header, too
+  pub keyed-size : e .keyed ≡ true → 16 ≤ e .header
   pub rule-kept : (s s′ : List ℕ) → SameHeader (e .header) s s′ → e .rule s ≡ e .rule s′
   pub tail-kept : (s s′ : List ℕ) → SameHeader (e .header) s s′ → e .tail s ≡ e .tail s′
 
@@ -54,28 +57,35 @@ pub record Sound (x : Ciphers) : Type 0 where
   pub seals : Invertible (x .E) (x .D)
   pub checks : (b : List ℕ) → ByteBlock b → ByteBlock (x .M b)
 
--- of a sheet and a pair of keys: bytes that meet the layout, and none of 1, 2 and 5
+-- of a sheet and a pair of keys: bytes that meet the layout, and none of 1, 2, 5 and 14
 pub record Fits (e : Edition) (x : Ciphers) (k : Keys) (s : List ℕ) : Type 0 where
   pub bytes : Bytes s
   pub fits : fitIn e s ≡ true
   pub passes : firstOf (pairTests e x k s) ≡ Pass
 
--- ---- what holds of a list, by any step that is the calls of edition e with the ciphers x on sheets with this header
+-- of a stranger's keys k′, on the way from the sheet s: a write under them answers the number given and changes nothing
+abbrev pub TurnedDown : Edition → (Turn → List ℕ → Reply × List ℕ) → (Keys → ℕ) → List ℕ → Keys → Type 0
+TurnedDown e step number s k′ = (i : ℕ) (c s′ : List ℕ) → fitIn e s′ ≡ true → SameHeader (e .header) s s′ → step (stranger k′ i c) s′ ≡ (answered (number k′), s′)
 
-pub record FollowsModel (e : Edition) (x : Ciphers) (k : Keys) (step : Call → List ℕ → Reply × List ℕ) (s : List ℕ) (calls : List Call) : Type 0 where
+-- ---- what holds of a list, by any step that is the calls of edition e with the ciphers x on sheets with this header; number is what strangers are answered
+
+pub record FollowsModel (e : Edition) (x : Ciphers) (k : Keys) (step : Turn → List ℕ → Reply × List ℕ) (number : Keys → ℕ) (s : List ℕ) (turns : List Turn) : Type 0 where
   -- each call answers the model's number and length 0
-  pub answers : replies step calls s ≡ replies modelStep calls (newModel (slots s))
-  -- after the list w is the model's count
-  pub last : lastWrite (finally step calls s) ≡ (finally modelStep calls (newModel (slots s))) .count
+  pub answers : replies step turns s ≡ replies (turnModel number) turns (newModel (slots s))
+  -- strangers change no byte: after the list the sheet is what the pair's writes and the clears alone make of it
+  pub alone : finally step turns s ≡ finally (λ c. step (own c)) (ownCalls turns) s
+  -- after the list w is the count of a model that was fed those alone
+  pub last : lastWrite (finally step turns s) ≡ (finally modelStep (ownCalls turns) (newModel (slots s))) .count
   -- the sheet still meets the layout, and has its header
-  pub fits : Fits e x k (finally step calls s)
-  pub header : SameHeader (e .header) s (finally step calls s)
+  pub fits : Fits e x k (finally step turns s)
+  pub header : SameHeader (e .header) s (finally step turns s)
   -- a read of any slot below n, with any window of 192 bytes, is what its page shows
   pub reads : (i : ℕ) (window : List ℕ) → i < slots s → length window ≡ 192
-      → readingWith e x k (finally step calls s) i window ≡ shown (page (finally modelStep calls (newModel (slots s))) i)
+      → readingWith e x k (finally step turns s) i window ≡ shown (page (finally modelStep (ownCalls turns) (newModel (slots s))) i)
 
 abbrev pub SheetsFollowModel : Type 0
-SheetsFollowModel = (e : Edition) (x : Ciphers) (k : Keys) (step : Call → List ℕ → Reply × List ℕ) (s : List ℕ) (calls : List Call)
-    → Regular e → Sound x → Fits e x k s → lastWrite s ≡ 0 → Captions calls
-    → ((c : Call) (s′ : List ℕ) → SameHeader (e .header) s s′ → step c s′ ≡ stepWith e x k c s′)
-    → FollowsModel e x k step s calls
+SheetsFollowModel = (e : Edition) (x : Ciphers) (k : Keys) (step : Turn → List ℕ → Reply × List ℕ) (number : Keys → ℕ) (s : List ℕ) (turns : List Turn)
+    → Regular e → Sound x → Fits e x k s → lastWrite s ≡ 0 → Captions (ownCalls turns)
+    → ((c : Call) (s′ : List ℕ) → SameHeader (e .header) s s′ → step (own c) s′ ≡ stepWith e x k c s′)
+    → EachStranger (TurnedDown e step number s) turns
+    → FollowsModel e x k step number s turns

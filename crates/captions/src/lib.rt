@@ -20,6 +20,7 @@ pub enum Answer {
     Worn,
     Blank,
     Altered(u16, Change),
+    OtherKeys,
 }
 
 // What a table of tests comes to.

@@ -166,10 +166,12 @@ pub extern "C" fn captions_blank(
     slots: usize,
     words: usize,
     serial: u16,
+    sealing: &[u8],
+    checking: &[u8],
 ) -> Answer
-    ensures { λ r. ⌜ crossed r (now (sheet .exit)) ≡ plain (blanking (now (sheet .entry)) slots words serial) ⌝ }
+    ensures { λ r. ⌜ crossed r (now (sheet .exit)) ≡ plain (blanking (pair (now (sealing .entry)) (now (checking .entry))) (now (sheet .entry)) slots words serial) ⌝ }
 {
-    let a = sheet::blank(sheet, slots, words, serial);
+    let a = sheet::blank(sheet, slots, words, serial, sealing, checking);
     sheet_answer(a)
 }
 

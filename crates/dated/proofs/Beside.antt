@@ -15,10 +15,10 @@ use Rattle.layout.specs.Layout.{editionOf, slots, keyClass, markLength, mark, f
 use Rattle.faults.specs.Faults.{firstFault}
 use Rattle.faults.specs.declared.Fault.{Fault}
 use Rattle.captions.specs.Answers.{Outcome, outcome, answerNumber, answerLength, answerPoint}
-use Rattle.captions.specs.Captions.{Keys, Ciphers, loadedFor, opened, altered, change}
+use Rattle.captions.specs.Captions.{Keys, Ciphers, loadedFor, otherKeys, opened, altered, change}
 use Rattle.captions.specs.Calls.{wrongKeys, otherClass, keyTests, classTests, sheetTests, windowTests, openTests, readTests, readingWith, reading}
 use Rattle.captions.specs.declared.Change.{Change}
-use Rattle.captions.specs.declared.Answer.the-variants.{Accepted, WrongKey, TwinKeys, WrongSpan, UnfitSheet, OtherKeyClass, NoSuchSlot, Blank, Altered}
+use Rattle.captions.specs.declared.Answer.the-variants.{Accepted, WrongKey, TwinKeys, WrongSpan, UnfitSheet, OtherKeyClass, NoSuchSlot, Blank, Altered, OtherKeys}
 use Rattle.terms.specs.Terms.{fitTerms, onShow}
 use Rattle.terms.specs.Rules.{MeetsTerms}
 use Rattle.terms.proofs.Meaning.{reflects-terms, reflects-show}
@@ -26,19 +26,19 @@ use Rattle.dated.specs.declared.DatedAnswer.the-variants.{Read, UnfitTer
 use Rattle.dated.specs.Calls.{DatedOutcome, datedNumber, datedLength, datedPoint, ofTerms, datedOutcome, undated, datedTests, datingWith, dating}
 use Rattle.dated.specs.Laws.{NoneTo, TermsRefuse, DateRefuses, ShowRefuses, BesideUndated}
 
--- ---- over any tests: b₁ to b₁₀ are those of the undated read, bₜ, b₁₁ and b₁₂ the three others
+-- ---- over any tests: b₁ to b₁₀ and b₁₄ are those of the undated read, bₜ, b₁₁ and b₁₂ the three others
 
 module _ (m : ℕ) (o z : List ℕ) (f : Fault) (i : ℕ) (c : Change) where
-  undatedOf : (b₁ b₂ b₃ b₄ b₅ b₆ b₉ b₁₀ : Bool) → Outcome
-  undatedOf b₁ b₂ b₃ b₄ b₅ b₆ b₉ b₁₀ =
+  undatedOf : (b₁ b₂ b₃ b₄ b₅ b₁₄ b₆ b₉ b₁₀ : Bool) → Outcome
+  undatedOf b₁ b₂ b₃ b₄ b₅ b₁₄ b₆ b₉ b₁₀ =
       decided
-      ((b₁ gives WrongKey) ∷ (b₂ gives TwinKeys) ∷ (b₃ gives WrongSpan) ∷ (b₄ gives UnfitSheet f) ∷ (b₅ gives OtherKeyClass) ∷ (b₆ gives NoSuchSlot) ∷ (b₉ gives Blank) ∷ (b₁₀ gives Altered i c) ∷ [])
+      ((b₁ gives WrongKey) ∷ (b₂ gives TwinKeys) ∷ (b₃ gives WrongSpan) ∷ (b₄ gives UnfitSheet f) ∷ (b₅ gives OtherKeyClass) ∷ (b₁₄ gives OtherKeys) ∷ (b₆ gives NoSuchSlot) ∷ (b₉ gives Blank) ∷ (b₁₀ gives Altered i c) ∷ [])
       (outcome (Accepted m) o) (λ a. outcome a z)
 
-  datedOf : (b₁ b₂ b₃ b₄ bₜ b₅ b₁₁ b₆ b₉ b₁₂ b₁₀ : Bool) → DatedOutcome
-  datedOf b₁ b₂ b₃ b₄ bₜ b₅ b₁₁ b₆ b₉ b₁₂ b₁₀ =
+  datedOf : (b₁ b₂ b₃ b₄ bₜ b₅ b₁₁ b₁₄ b₆ b₉ b₁₂ b₁₀ : Bool) → DatedOutcome
+  datedOf b₁ b₂ b₃ b₄ bₜ b₅ b₁₁ b₁₄ b₆ b₉ b₁₂ b₁₀ =
       decided
-      ((b₁ gives Read WrongKey) ∷ (b₂ gives Read TwinKeys) ∷ (b₃ gives Read WrongSpan) ∷ (b₄ gives Read (UnfitSheet f)) ∷ (bₜ gives UnfitTerms) ∷ (b₅ gives Read OtherKeyClass) ∷ (b₁₁ gives NoSuchDate) ∷ (b₆ gives Read NoSuchSlot) ∷ (b₉ gives Read Blank) ∷ (b₁₂ gives NotOnShow) ∷ (b₁₀ gives Read (Altered i c)) ∷ [])
+      ((b₁ gives Read WrongKey) ∷ (b₂ gives Read TwinKeys) ∷ (b₃ gives Read WrongSpan) ∷ (b₄ gives Read (UnfitSheet f)) ∷ (bₜ gives UnfitTerms) ∷ (b₅ gives Read OtherKeyClass) ∷ (b₁₁ gives NoSuchDate) ∷ (b₁₄ gives Read OtherKeys) ∷ (b₆ gives Read NoSuchSlot) ∷ (b₉ gives Read Blank) ∷ (b₁₂ gives NotOnShow) ∷ (b₁₀ gives Read (Altered i c)) ∷ [])
       (datedOutcome (Read (Accepted m)) o) (λ a. datedOutcome a z)
 
 -- when each of the three applies, with u the undated number
@@ -51,16 +51,26 @@ data DateBy (bₜ b₁₁ : Bool) (u : ℕ) : Type 0 where
 data ShowBy (bₜ b₁₁ b₁₂ : Bool) (u : ℕ) : Type 0 where
   show-by : bₜ ≡ false → b₁₁ ≡ false → b₁₂ ≡ true → (u ≡ 0) ⊎ (u ≡ 10) → ShowBy bₜ b₁₁ b₁₂ u
 
+-- u is a number of the undated read
+abbrev Undated : ℕ → Type 0
+Undated u = (u ≡ 11 → ⊥) × (u ≡ 12 → ⊥)
+
+below-11 : (u : ℕ) → u ≤ 10 → Undated u
+below-11 u l = (λ e. omega (arith, e), λ e. omega (arith, e))
+
+fourteen : Undated 14
+fourteen = (λ e. omega (arith, e), λ e. omega (arith, e))
+
 data Way (bₜ b₁₁ b₁₂ : Bool) (u : Outcome) (d : DatedOutcome) : Type 0 where
   by-terms : TermsBy bₜ (u .number) → d .unfit-terms ≡ true → d .outcome .number ≡ 4 → Way bₜ b₁₁ b₁₂ u d
   by-date : DateBy bₜ b₁₁ (u .number) → d .unfit-terms ≡ false → d .outcome .number ≡ 11 → Way bₜ b₁₁ b₁₂ u d
   by-show : ShowBy bₜ b₁₁ b₁₂ (u .number) → d .unfit-terms ≡ false → d .outcome .number ≡ 12 → Way bₜ b₁₁ b₁₂ u d
   by-none : (TermsBy bₜ (u .number) → ⊥) → (DateBy bₜ b₁₁ (u .number) → ⊥) → (ShowBy bₜ b₁₁ b₁₂ (u .number) → ⊥)
-      → u .number ≤ 10 → d .unfit-terms ≡ false → d .outcome ≡ u → Way bₜ b₁₁ b₁₂ u d
+      → Undated (u .number) → d .unfit-terms ≡ false → d .outcome ≡ u → Way bₜ b₁₁ b₁₂ u d
 
 -- a number from 1 to 4 leaves none of the three
 low : {bₜ b₁₁ b₁₂ : Bool} {u : Outcome} {d : DatedOutcome} → 1 ≤ u .number → u .number ≤ 4 → d .unfit-terms ≡ false → d .outcome ≡ u → Way bₜ b₁₁ b₁₂ u d
-low {bₜ} {b₁₁} {b₁₂} {u} l h f e = by-none terms date show (omega arith) f e
+low {bₜ} {b₁₁} {b₁₂} {u} l h f e = by-none terms date show (below-11 (u .number) (omega arith)) f e
   where
     terms : TermsBy bₜ (u .number) → ⊥
     terms (terms-by t n) = omega (arith, n l)
@@ -73,23 +83,21 @@ low {bₜ} {b₁₁} {b₁₂} {u} l h f e = by-none terms date show (omega arit
     show (show-by t b c (inr q)) = omega (arith, q)
 
 module _ (m : ℕ) (o z : List ℕ) (f : Fault) (i : ℕ) (c : Change) where
-  undated-4 : (b₅ b₆ b₉ b₁₀ : Bool) → NoneTo 4 (undatedOf m o z f i c false false false false b₅ b₆ b₉ b₁₀ .number)
+  undated-5 : (b₁₄ b₆ b₉ b₁₀ : Bool) → NoneTo 5 (undatedOf m o z f i c false false false false false b₁₄ b₆ b₉ b₁₀ .number)
   unfolding undatedOf decided outcome answerNumber
-  undated-4 true b₆ b₉ b₁₀ l = omega arith
-  undated-4 false true b₉ b₁₀ l = omega arith
-  undated-4 false false true b₁₀ l = omega arith
-  undated-4 false false false true l = omega arith
-  undated-4 false false false false l = omega (arith, l)
+  undated-5 true b₆ b₉ b₁₀ l = omega arith
+  undated-5 false true b₉ b₁₀ l = omega arith
+  undated-5 false false true b₁₀ l = omega arith
+  undated-5 false false false true l = omega arith
+  undated-5 false false false false l = omega (arith, l)
 
-  undated-5 : (b₆ b₉ b₁₀ : Bool) → NoneTo 5 (undatedOf m o z f i c false false false false false b₆ b₉ b₁₀ .number)
+  undated-4 : (b₅ b₁₄ b₆ b₉ b₁₀ : Bool) → NoneTo 4 (undatedOf m o z f i c false false false false b₅ b₁₄ b₆ b₉ b₁₀ .number)
   unfolding undatedOf decided outcome answerNumber
-  undated-5 true b₉ b₁₀ l = omega arith
-  undated-5 false true b₁₀ l = omega arith
-  undated-5 false false true l = omega arith
-  undated-5 false false false l = omega (arith, l)
+  undated-4 true b₁₄ b₆ b₉ b₁₀ l = omega arith
+  undated-4 false b₁₄ b₆ b₉ b₁₀ l = let h = undated-5 b₁₄ b₆ b₉ b₁₀ l in omega (arith, h)
 
   -- fit terms and a day that there is, but a slot off show: the undated read was refused before 10, or the slot is on show
-  ends : {b₁₁ b₁₂ : Bool} {u : Outcome} {d : DatedOutcome} → (b₁₁ ≡ true → NoneTo 5 (u .number) → ⊥) → (b₁₂ ≡ true → (u .number ≡ 0) ⊎ (u .number ≡ 10) → ⊥) → u .number ≤ 10
+  ends : {b₁₁ b₁₂ : Bool} {u : Outcome} {d : DatedOutcome} → (b₁₁ ≡ true → NoneTo 5 (u .number) → ⊥) → (b₁₂ ≡ true → (u .number ≡ 0) ⊎ (u .number ≡ 10) → ⊥) → Undated (u .number)
       → d .unfit-terms ≡ false → d .outcome ≡ u → Way false b₁₁ b₁₂ u d
   ends {b₁₁} {b₁₂} {u} p q = by-none terms date show
     where
@@ -102,31 +110,33 @@ module _ (m : ℕ) (o z : List ℕ) (f : Fault) (i : ℕ) (c : Change) where
       show : ShowBy false b₁₁ b₁₂ (u .number) → ⊥
       show (show-by t b c w) = q c w
 
-  neither : (n : ℕ) → 1 ≤ n → n ≤ 9 → (n ≡ 0) ⊎ (n ≡ 10) → ⊥
+  neither : (n : ℕ) → 1 ≤ n → (n ≡ 10 → ⊥) → (n ≡ 0) ⊎ (n ≡ 10) → ⊥
   neither n l h (inl q) = omega (arith, q)
-  neither n l h (inr q) = omega (arith, q)
+  neither n l h (inr q) = h q
 
-  way : (b₁ b₂ b₃ b₄ bₜ b₅ b₁₁ b₆ b₉ b₁₂ b₁₀ : Bool)
-      → Way bₜ b₁₁ b₁₂ (undatedOf m o z f i c b₁ b₂ b₃ b₄ b₅ b₆ b₉ b₁₀) (datedOf m o z f i c b₁ b₂ b₃ b₄ bₜ b₅ b₁₁ b₆ b₉ b₁₂ b₁₀)
+  way : (b₁ b₂ b₃ b₄ bₜ b₅ b₁₁ b₁₄ b₆ b₉ b₁₂ b₁₀ : Bool)
+      → Way bₜ b₁₁ b₁₂ (undatedOf m o z f i c b₁ b₂ b₃ b₄ b₅ b₁₄ b₆ b₉ b₁₀) (datedOf m o z f i c b₁ b₂ b₃ b₄ bₜ b₅ b₁₁ b₁₄ b₆ b₉ b₁₂ b₁₀)
   unfolding undatedOf datedOf decided outcome datedOutcome datedNumber datedLength datedPoint ofTerms answerNumber answerLength answerPoint
-  way true b₂ b₃ b₄ bₜ b₅ b₁₁ b₆ b₉ b₁₂ b₁₀ = low (lit≤ tt) (lit≤ tt) refl refl
-  way false true b₃ b₄ bₜ b₅ b₁₁ b₆ b₉ b₁₂ b₁₀ = low (lit≤ tt) (lit≤ tt) refl refl
-  way false false true b₄ bₜ b₅ b₁₁ b₆ b₉ b₁₂ b₁₀ = low (lit≤ tt) (lit≤ tt) refl refl
-  way false false false true bₜ b₅ b₁₁ b₆ b₉ b₁₂ b₁₀ = low (lit≤ tt) (lit≤ tt) refl refl
-  way false false false false true b₅ b₁₁ b₆ b₉ b₁₂ b₁₀ = by-terms (terms-by refl (undated-4 b₅ b₆ b₉ b₁₀)) refl refl
-  way false false false false false true b₁₁ b₆ b₉ b₁₂ b₁₀ = ends (λ b n. omega (arith, n (lit≤ tt))) (λ b. neither 5 (lit≤ tt) (lit≤ tt)) (lit≤ tt) refl refl
-  way false false false false false false true b₆ b₉ b₁₂ b₁₀ = by-date (date-by refl refl (undated-5 b₆ b₉ b₁₀)) refl refl
-  way false false false false false false false true b₉ b₁₂ b₁₀ = ends (λ b n. false≢true b) (λ b. neither 6 (lit≤ tt) (lit≤ tt)) (lit≤ tt) refl refl
-  way false false false false false false false false true b₁₂ b₁₀ = ends (λ b n. false≢true b) (λ b. neither 9 (lit≤ tt) (lit≤ tt)) (lit≤ tt) refl refl
-  way false false false false false false false false false true true = by-show (show-by refl refl refl (inr refl)) refl refl
-  way false false false false false false false false false true false = by-show (show-by refl refl refl (inl refl)) refl refl
-  way false false false false false false false false false false true = ends (λ b n. false≢true b) (λ b w. false≢true b) (lit≤ tt) refl refl
-  way false false false false false false false false false false false = ends (λ b n. false≢true b) (λ b w. false≢true b) (lit≤ tt) refl refl
+  way true b₂ b₃ b₄ bₜ b₅ b₁₁ b₁₄ b₆ b₉ b₁₂ b₁₀ = low (lit≤ tt) (lit≤ tt) refl refl
+  way false true b₃ b₄ bₜ b₅ b₁₁ b₁₄ b₆ b₉ b₁₂ b₁₀ = low (lit≤ tt) (lit≤ tt) refl refl
+  way false false true b₄ bₜ b₅ b₁₁ b₁₄ b₆ b₉ b₁₂ b₁₀ = low (lit≤ tt) (lit≤ tt) refl refl
+  way false false false true bₜ b₅ b₁₁ b₁₄ b₆ b₉ b₁₂ b₁₀ = low (lit≤ tt) (lit≤ tt) refl refl
+  way false false false false true b₅ b₁₁ b₁₄ b₆ b₉ b₁₂ b₁₀ = by-terms (terms-by refl (undated-4 b₅ b₁₄ b₆ b₉ b₁₀)) refl refl
+  way false false false false false true b₁₁ b₁₄ b₆ b₉ b₁₂ b₁₀ =
+      ends (λ b n. omega (arith, n (lit≤ tt))) (λ b. neither 5 (lit≤ tt) (λ e. omega (arith, e))) (below-11 5 (lit≤ tt)) refl refl
+  way false false false false false false true b₁₄ b₆ b₉ b₁₂ b₁₀ = by-date (date-by refl refl (undated-5 b₁₄ b₆ b₉ b₁₀)) refl refl
+  way false false false false false false false true b₆ b₉ b₁₂ b₁₀ = ends (λ b n. false≢true b) (λ b. neither 14 (lit≤ tt) (λ e. omega (arith, e))) fourteen refl refl
+  way false false false false false false false false true b₉ b₁₂ b₁₀ = ends (λ b n. false≢true b) (λ b. neither 6 (lit≤ tt) (λ e. omega (arith, e))) (below-11 6 (lit≤ tt)) refl refl
+  way false false false false false false false false false true b₁₂ b₁₀ = ends (λ b n. false≢true b) (λ b. neither 9 (lit≤ tt) (λ e. omega (arith, e))) (below-11 9 (lit≤ tt)) refl refl
+  way false false false false false false false false false false true true = by-show (show-by refl refl refl (inr refl)) refl refl
+  way false false false false false false false false false false true false = by-show (show-by refl refl refl (inl refl)) refl refl
+  way false false false false false false false false false false false true = ends (λ b n. false≢true b) (λ b w. false≢true b) (below-11 10 (lit≤ tt)) refl refl
+  way false false false false false false false false false false false false = ends (λ b n. false≢true b) (λ b w. false≢true b) (below-11 0 (lit≤ tt)) refl refl
 
 -- ---- what a way tells, and which way there is
 
-small : (o u : Outcome) → o ≡ u → u .number ≤ 10 → o .number ≤ 10
-small o u g l = rw g l
+of-undated : (o u : Outcome) → o ≡ u → Undated (u .number) → Undated (o .number)
+of-undated o u g l = rw g l
 
 module _ {bₜ b₁₁ b₁₂ : Bool} {u : Outcome} {d : DatedOutcome} where
   terms-then : d .unfit-terms ≡ true → Way bₜ b₁₁ b₁₂ u d → TermsBy bₜ (u .number)
@@ -145,13 +155,13 @@ module _ {bₜ b₁₁ b₁₂ : Bool} {u : Outcome} {d : DatedOutcome} where
   date-then e (by-terms h f n) = absurd (omega (arith, e, n))
   date-then e (by-date h f n) = h
   date-then e (by-show h f n) = absurd (omega (arith, e, n))
-  date-then e (by-none p q r l f g) = absurd (omega (arith, e, small _ _ g l))
+  date-then e (by-none p q r l f g) = absurd (of-undated _ _ g l .0 e)
 
   show-then : d .outcome .number ≡ 12 → Way bₜ b₁₁ b₁₂ u d → ShowBy bₜ b₁₁ b₁₂ (u .number)
   show-then e (by-terms h f n) = absurd (omega (arith, e, n))
   show-then e (by-date h f n) = absurd (omega (arith, e, n))
   show-then e (by-show h f n) = h
-  show-then e (by-none p q r l f g) = absurd (omega (arith, e, small _ _ g l))
+  show-then e (by-none p q r l f g) = absurd (of-undated _ _ g l .1 e)
 
   then-terms : TermsBy bₜ (u .number) → Way bₜ b₁₁ b₁₂ u d → d .unfit-terms ≡ true
   then-terms h (by-terms g f n) = f
@@ -197,7 +207,7 @@ module _ (k : Keys) (s t : List ℕ) (i day : ℕ) (window : List ℕ) where
   the-way =
       let e = editionOf s in
       let x : Ciphers = loadedFor (keyClass s) k in
-      way (markLength (mark e s i)) (opened x e s i) (zeros (length window)) (firstFault s) i (change x e s i) (wrongKeys k) (same (k .sealing) (k .checking)) (not (eqb (length window) 192)) (not (fitIn e s)) unfit (otherClass k s) late (leb (slots s) i) (blankSlot e s i) off (altered x e s i)
+      way (markLength (mark e s i)) (opened x e s i) (zeros (length window)) (firstFault s) i (change x e s i) (wrongKeys k) (same (k .sealing) (k .checking)) (not (eqb (length window) 192)) (not (fitIn e s)) unfit (otherClass k s) late (otherKeys x e s) (leb (slots s) i) (blankSlot e s i) off (altered x e s i)
 
   fit-terms : unfit ≡ false → MeetsTerms (slots s) t
   fit-terms f = reflects-terms (slots s) t .holds (not-false _ f)

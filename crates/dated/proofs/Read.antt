@@ -16,7 +16,7 @@ use Rattle.layout.specs.declared.Shape.{Shape}
 use Rattle.layout.proofs.Fits.{fit-facts, fits-header, fits-few}
 use Rattle.captions.specs.Answers.{Outcome, outcome, firstOf}
 use Rattle.captions.specs.Captions.{Keys, loadedFor, opened}
-use Rattle.captions.specs.Calls.{keyTests, spanRow, unfitRow, classRow, slotRow, blankRow, alteredRow}
+use Rattle.captions.specs.Calls.{keyTests, spanRow, unfitRow, classRow, markRow, slotRow, blankRow, alteredRow}
 use Rattle.captions.specs.declared.Answer.{Answer}
 use Rattle.captions.specs.declared.Answer.the-variants.{Accepted, WrongSpan}
 use Rattle.captions.specs.declared.Verdict.{Verdict}
@@ -130,14 +130,20 @@ module _ (k : Keys) (s t : List ℕ) (i day : ℕ) (v : Verdict) (e : v ≡ firs
           ∙ decided-rest _ NotOnShow _ (accepts k s i) refuses (rw (show-is, f)) refl
           ∙ blank-passed
 
--- ---- 4 (terms) 5 11, and those: r is what was found of the terms
+-- ---- 4 (terms) 5 11 14, and those: r is what was found of the terms
 
 module _ (k : Keys) (s t : List ℕ) (i day : ℕ) (h : Shape) (q : h ≡ shapeOf s) (r : Bool) (e : r ≡ fitTerms (h .slots) t) where
   terms-are : fitTerms (slots s) t ≡ r
   terms-are = sym (e ∙ ap (λ (x : Shape). fitTerms (x .slots) t) q ∙ (unfold shapeOf in refl))
 
+  mark-test : Row Answer
+  mark-test = markRow (loadedFor (keyClass s) k) (editionOf s) s
+
+  past-day : List (Row DatedAnswer)
+  past-day = undated mark-test ∷ shownRows k s t i day
+
   past-class : List (Row DatedAnswer)
-  past-class = dayRow day ∷ shownRows k s t i day
+  past-class = dayRow day ∷ past-day
 
   past-terms : List (Row DatedAnswer)
   past-terms = undated (classRow k s) ∷ past-class
@@ -148,7 +154,7 @@ module _ (k : Keys) (s t : List ℕ) (i day : ℕ) (h : Shape) (q : h ≡ shapeO
 
   module _ (p : r ≡ true) (v : Verdict) (g : v ≡ firstOf (classRow k s ∷ [])) where
     terms-passed : decided past-terms (accepts k s i) refuses ≡ datedFit k s t i day
-    unfolding datedFit past-terms past-class
+    unfolding datedFit past-terms past-class past-day mark-test
     terms-passed = decided-rest _ UnfitTerms _ (accepts k s i) refuses (rw (terms-are, p)) refl
 
     pub fit-class : (w : List ℕ) → w ≡ zeros 192 → (a : Answer) → v ≡ Refuse a → datedOutcome (Read a) w ≡ datedFit k s t i day
@@ -164,9 +170,18 @@ module _ (k : Keys) (s t : List ℕ) (i day : ℕ) (h : Shape) (q : h ≡ shapeO
       unfolding refuses past-class
       fit-late w z l = ap (datedOutcome NoSuchDate) z ∙ decided-first _ NoSuchDate _ (accepts k s i) refuses (lt-ltb 36524 day l) refl ∙ class-passed
 
-      pub fit-shown : day ≤ 36524 → (o : DatedOutcome) → o ≡ datedShown k s t i day → o ≡ datedFit k s t i day
-      unfolding datedShown past-class
-      fit-shown l o n = n ∙ decided-rest _ NoSuchDate _ (accepts k s i) refuses (le-ltb 36524 day l) refl ∙ class-passed
+      module _ (l : day ≤ 36524) (u : Verdict) (d : u ≡ firstOf (markRow (loadedFor (keyClass s) k) (editionOf s) s ∷ [])) where
+        day-passed : decided past-day (accepts k s i) refuses ≡ datedFit k s t i day
+        unfolding past-class
+        day-passed = decided-rest _ NoSuchDate _ (accepts k s i) refuses (le-ltb 36524 day l) refl ∙ class-passed
+
+        pub fit-mark : (w : List ℕ) → w ≡ zeros 192 → (a : Answer) → u ≡ Refuse a → datedOutcome (Read a) w ≡ datedFit k s t i day
+        unfolding refuses past-day mark-test
+        fit-mark w z a n = ap (datedOutcome (Read a)) z ∙ tests-refuse (accepts k s i) refuses (shownRows k s t i day) (mark-test ∷ []) u d a n ∙ day-passed
+
+        pub fit-shown : u ≡ Pass → (o : DatedOutcome) → o ≡ datedShown k s t i day → o ≡ datedFit k s t i day
+        unfolding datedShown past-day mark-test
+        fit-shown p o n = n ∙ tests-pass (accepts k s i) refuses (shownRows k s t i day) (mark-test ∷ []) u d p ∙ day-passed
 
 -- ---- 1 2 3 4, and those: the window became w, which is zero
 

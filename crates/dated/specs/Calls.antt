@@ -10,7 +10,7 @@ use Rattle.layout.specs.Layout.{Edition, editionOf, slots, keyClass, markLength
 use Rattle.faults.specs.Faults.{Point, point}
 use Rattle.captions.specs.Answers.{Outcome, answerNumber, answerLength, answerPoint}
 use Rattle.captions.specs.Captions.{Keys, Ciphers, loadedFor, opened}
-use Rattle.captions.specs.Calls.{keyTests, spanRow, unfitRow, classRow, slotRow, blankRow, alteredRow}
+use Rattle.captions.specs.Calls.{keyTests, spanRow, unfitRow, classRow, markRow, slotRow, blankRow, alteredRow}
 use Rattle.captions.specs.declared.Answer.{Answer}
 use Rattle.captions.specs.declared.Answer.the-variants.{Accepted}
 use Rattle.terms.specs.Terms.{fitTerms, onShow}
@@ -75,7 +75,7 @@ dayRow day = ltb 36524 day gives NoSuchDate
 abbrev pub showRow : List ℕ → List ℕ → ℕ → ℕ → Row DatedAnswer
 showRow s t i day = not (onShow (slots s) t i day) gives NotOnShow
 
--- dated read: 1 2 3 4 4 (terms) 5 11 6 9 12 10
+-- dated read: 1 2 3 4 4 (terms) 5 11 14 6 9 12 10
 unfoldable pub datedTests : Edition → Ciphers → Keys → List ℕ → List ℕ → ℕ → ℕ → List ℕ → List (Row DatedAnswer)
 datedTests e x k s t i day window =
     map undated (keyTests k)
@@ -84,6 +84,7 @@ datedTests e x k s t i day window =
     ∷ termsRow s t
     ∷ undated (classRow k s)
     ∷ dayRow day
+    ∷ undated (markRow x e s)
     ∷ undated (slotRow s i)
     ∷ undated (blankRow e s i)
     ∷ showRow s t i day

@@ -5,7 +5,7 @@ use Rattle.octets.specs.Bytes.{zeros}
 use Rattle.octets.specs.Outcome.{Row, decided}
 use Rattle.layout.specs.Layout.{editionOf, keyClass, markLength, mark}
 use Rattle.captions.specs.Captions.{Keys, loadedFor, opened}
-use Rattle.captions.specs.Calls.{classRow, slotRow, blankRow, alteredRow}
+use Rattle.captions.specs.Calls.{classRow, markRow, slotRow, blankRow, alteredRow}
 use Rattle.captions.specs.declared.Answer.the-variants.{Accepted}
 use Rattle.dated.specs.declared.DatedAnswer.{DatedAnswer}
 use Rattle.dated.specs.declared.DatedAnswer.the-variants.{Read}
@@ -20,9 +20,9 @@ shownRows k s t i day =
     ∷ undated (alteredRow (loadedFor (keyClass s) k) (editionOf s) s i)
     ∷ []
 
--- 4 (terms) 5 11, and those
+-- 4 (terms) 5 11 14, and those
 abbrev pub fitRows : Keys → List ℕ → List ℕ → ℕ → ℕ → List (Row DatedAnswer)
-fitRows k s t i day = termsRow s t ∷ undated (classRow k s) ∷ dayRow day ∷ shownRows k s t i day
+fitRows k s t i day = termsRow s t ∷ undated (classRow k s) ∷ dayRow day ∷ undated (markRow (loadedFor (keyClass s) k) (editionOf s) s) ∷ shownRows k s t i day
 
 -- an accepted read, and a refused one with a window of 192 bytes
 unfoldable pub accepts : Keys → List ℕ → ℕ → DatedOutcome

@@ -12,7 +12,7 @@ use Rattle.layout.specs.Layout.{editionOf, slots, keyClass}
 use Rattle.layout.specs.Rules.{IsBlank, MeetsLayout}
 use Rattle.captions.specs.Captions.{Keys, loadedFor}
 use Rattle.captions.specs.Calls.{reading}
-use Rattle.captions.specs.Refusals.{RightKeys, IsAltered, Leaves}
+use Rattle.captions.specs.Refusals.{RightKeys, OtherMark, IsAltered, Leaves}
 use Rattle.terms.specs.Terms.{opening, closing}
 use Rattle.terms.specs.Rules.{MeetsTerms, OnShow}
 use Rattle.terms.specs.Laws.{termSheet}
@@ -29,6 +29,7 @@ datedClauses k s t i day window =
     ∷ (4 when (MeetsTerms (slots s) t → ⊥))
     ∷ (5 when (length (k .sealing) ≡ keyBytes (keyClass s) → ⊥))
     ∷ (11 when (36524 < day))
+    ∷ (14 when OtherMark (loadedFor (keyClass s) k) s)
     ∷ (6 when (slots s ≤ i))
     ∷ (9 when IsBlank (editionOf s) s i)
     ∷ (12 when (OnShow (slots s) t i day → ⊥))
@@ -114,5 +115,5 @@ pub record DatedReads : Type 0 where
   pub opened : (k : Keys) (s : List ℕ) (i day : ℕ) (window : List ℕ) → MeetsLayout s → i < slots s → day ≤ 36524
       → (dating k s (alwaysOpen (slots s)) i day window) .outcome ≡ reading k s i window
   -- each of the other numbers can be met, 4 by either sheet
-  pub reads : Each DatedOf (1 ∷ 2 ∷ 3 ∷ 4 ∷ 5 ∷ 11 ∷ 6 ∷ 9 ∷ 12 ∷ [])
+  pub reads : Each DatedOf (1 ∷ 2 ∷ 3 ∷ 4 ∷ 5 ∷ 11 ∷ 14 ∷ 6 ∷ 9 ∷ 12 ∷ [])
   pub terms-met : TermsMet

@@ -47,7 +47,7 @@ fn read_shown(
     DatedAnswer::Read(a)
 }
 
-// Tests 4, of the terms, 5, 11 and the others, with a sheet that meets the layout and a window of zeros.
+// Tests 4, of the terms, 5, 11, 14 and the others, with a sheet that meets the layout and a window of zeros.
 fn read_fit(
     sealing: &[u8],
     checking: &[u8],
@@ -70,6 +70,10 @@ fn read_fit(
     }
     if terms::LAST_DAY < day {
         return DatedAnswer::NoSuchDate;
+    }
+    let mark = verdicts::mark_verdict(sealing, checking, sheet);
+    if let Verdict::Refuse(a) = mark {
+        return DatedAnswer::Read(a);
     }
     read_shown(sealing, checking, sheet, terms, slot, day, window)
 }

@@ -1,6 +1,6 @@
 -- The cipher of a class by path numbers and by loaded keys: all one, mCrypton, and what the theorems for any cipher ask.
 use Prim.Native.Nat.{ℕ}
-use mathlib.Core.Path.{_≡_, refl, sym, _∙_}
+use mathlib.Core.Path.{_≡_, refl, sym, ap, _∙_}
 use mathlib.Core.Bool.{true, false, _&&_}
 use mathlib.Core.List.{List}
 use lib.Dec.{eqb}
@@ -13,56 +13,76 @@ use Rattle.mcrypton.specs.Bytes.{encryptBytes, decryptBytes}
 use Rattle.mcrypton.proofs.Vectors.{block-vectors}
 use Rattle.cipher.specs.Key.{classKnown, keyBytes, sheetKeyLength, encryptBy, decryptBy}
 use Rattle.cipher.proofs.Promise.{class-cases, class-encrypts, class-decrypts, promise}
-use Rattle.layout.specs.Layout.{editionOf, keyClass}
-use Rattle.captions.specs.Captions.{Keys, loadedFor}
-use Rattle.captions.specs.Calls.{wrongKeys, keyTests, otherClass, writing, reading}
+use Rattle.layout.specs.Layout.{editionOf, keyClass, blankSheet}
+use Rattle.captions.specs.Captions.{Keys, Ciphers, loadedFor, keyMark}
+use Rattle.captions.specs.declared.Answer.the-variants.{Accepted}
+use Rattle.captions.specs.Calls.{wrongKeys, keyTests, otherClass, blankTests, writing, reading, blankingWith, blanking}
+use Rattle.captions.specs.Answers.{outcome}
 use Rattle.captions.specs.Claim.{Sound}
-use Rattle.captions.proofs.Tables.{Unmet, unmet-first}
+use Rattle.captions.proofs.Tables.{Unmet, unmet-first, unmet-rest, decided-cong}
 use Rattle.captions.proofs.Editions.{fit-class}
+use Rattle.captions.proofs.ReadBack.{or-false-left, or-false-right}
 use Rattle.captions.proofs.Agree.{writing-agree, reading-agree}
-use Rattle.demands.specs.Ciphers.{byPaths, writingBy, readingBy, ByMcrypton, ClassesByMcrypton, CodeWrites, CodeReads}
+use Rattle.demands.specs.Ciphers.{byPaths, writingBy, readingBy, blankingBy, ByMcrypton, ClassesByMcrypton, CodeWrites, CodeReads, CodeBlanks}
+
+-- ---- keys of a class
+
+module _ (k : Keys) (t : ℕ) (w : wrongKeys k ≡ false) (size : length (k .sealing) ≡ keyBytes t) where
+  keys-right : sheetKeyLength (length (k .sealing)) && (sheetKeyLength (length (k .checking)) && eqb (length (k .sealing)) (length (k .checking))) ≡ true
+  unfolding wrongKeys
+  keys-right = not-false _ w
+
+  pub as-long : length (k .checking) ≡ keyBytes t
+  as-long =
+      sym (eqb-true (length (k .sealing)) (length (k .checking))
+      (and-right (sheetKeyLength (length (k .checking))) _ (and-right (sheetKeyLength (length (k .sealing))) _ keys-right)))
+      ∙ size
+
+  -- by any path numbers, the keys loaded for the class
+  pub paths-loaded : (p q : ℕ) → byPaths t p q k ≡ loadedFor t k
+  unfolding byPaths loadedFor
+  paths-loaded p q =
+      λ i. record {
+        E = λ b. sym (class-encrypts t (k .sealing) size p b) i;
+        D = λ b. sym (class-decrypts t (k .sealing) size q b) i;
+        M = λ b. sym (class-encrypts t (k .checking) as-long p b) i;
+      }
+
+  sound-loaded : classKnown t ≡ true → Bytes (k .sealing) → Bytes (k .checking) → Sound (loadedFor t k)
+  unfolding loadedFor
+  sound-loaded h a b =
+      record {
+        seals = (promise (record { known = h; size = size; bytes = a })) .invertible;
+        checks = (promise (record { known = h; size = as-long; bytes = b })) .invertible .encrypts;
+      }
+
+  pub sound-paths : (p q : ℕ) → classKnown t ≡ true → Bytes (k .sealing) → Bytes (k .checking) → Sound (byPaths t p q k)
+  sound-paths p q h a b = rw (paths-loaded p q) (sound-loaded h a b)
 
 -- ---- keys that pass tests 1, 2 and 5
 
 module _ (k : Keys) (s : List ℕ) (u : Unmet (keyTests k)) (c : otherClass k s ≡ false) where
-  keys-right : sheetKeyLength (length (k .sealing)) && (sheetKeyLength (length (k .checking)) && eqb (length (k .sealing)) (length (k .checking))) ≡ true
-  unfolding keyTests wrongKeys
-  keys-right = not-false _ (unmet-first u)
+  right : wrongKeys k ≡ false
+  unfolding keyTests
+  right = unmet-first u
 
   pub sealing-size : length (k .sealing) ≡ keyBytes (keyClass s)
   unfolding otherClass
   sealing-size = eqb-true _ _ (not-false _ c)
 
   pub checking-size : length (k .checking) ≡ keyBytes (keyClass s)
-  checking-size =
-      sym (eqb-true (length (k .sealing)) (length (k .checking))
-      (and-right (sheetKeyLength (length (k .checking))) _ (and-right (sheetKeyLength (length (k .sealing))) _ keys-right)))
-      ∙ sealing-size
+  checking-size = as-long k (keyClass s) right sealing-size
 
   -- by any path numbers, the keys loaded for the sheet's class
   pub loaded-paths : (p q : ℕ) → byPaths (keyClass s) p q k ≡ loadedFor (keyClass s) k
-  unfolding byPaths loadedFor
-  loaded-paths p q =
-      λ i. record {
-        E = λ b. sym (class-encrypts (keyClass s) (k .sealing) sealing-size p b) i;
-        D = λ b. sym (class-decrypts (keyClass s) (k .sealing) sealing-size q b) i;
-        M = λ b. sym (class-encrypts (keyClass s) (k .checking) checking-size p b) i;
-      }
+  loaded-paths = paths-loaded k (keyClass s) right sealing-size
 
   -- all path numbers mean the same
   pub same-paths : (p q p′ q′ : ℕ) → byPaths (keyClass s) p q k ≡ byPaths (keyClass s) p′ q′ k
   same-paths p q p′ q′ = loaded-paths p q ∙ sym (loaded-paths p′ q′)
 
-  loaded-sound : classKnown (keyClass s) ≡ true → Bytes (k .sealing) → Bytes (k .checking) → Sound (loadedFor (keyClass s) k)
-  unfolding loadedFor
-  loaded-sound h a b =
-      record {
-        seals = (promise (record { known = h; size = sealing-size; bytes = a })) .invertible;
-        checks = (promise (record { known = h; size = checking-size; bytes = b })) .invertible .encrypts;
-      }
-
   pub paths-sound : (p q : ℕ) → classKnown (keyClass s) ≡ true → Bytes (k .sealing) → Bytes (k .checking) → Sound (byPaths (keyClass s) p q k)
-  paths-sound p q h a b = rw (loaded-paths p q) (loaded-sound h a b)
+  paths-sound = sound-paths k (keyClass s) right sealing-size
 
 -- ---- what both demands say
 
@@ -89,3 +109,24 @@ pub code-reads : CodeReads
 unfolding readingBy reading
 code-reads p q k s i window =
     reading-agree (editionOf s) (byPaths (keyClass s) p q k) (loadedFor (keyClass s) k) k s i (λ u h. loaded-paths k s u h p q) window
+
+-- ---- blanking: keys that pass its tests
+
+module _ (k : Keys) (b : List ℕ) (n t : ℕ) (u : Unmet (blankTests k b n t)) where
+  pub blank-keys : wrongKeys k ≡ false
+  unfolding blankTests
+  blank-keys = or-false-left (wrongKeys k) _ (unmet-first u)
+
+  pub blank-known : classKnown t ≡ true
+  unfolding blankTests
+  blank-known = not-false _ (or-false-right (wrongKeys k) _ (unmet-first u))
+
+  pub blank-size : length (k .sealing) ≡ keyBytes t
+  unfolding blankTests
+  blank-size = eqb-true _ _ (not-false _ (unmet-first (unmet-rest (unmet-rest (unmet-rest u)))))
+
+pub code-blanks : CodeBlanks
+unfolding blankingBy blanking blankingWith
+code-blanks p k s n t v =
+    decided-cong (blankTests k s n t) _ _ (λ a. outcome a s)
+    (λ u. ap (λ (x : Ciphers). outcome (Accepted 0) (blankSheet n t v (keyMark x n t v))) (paths-loaded k t (blank-keys k s n t u) (blank-size k s n t u) p p))

@@ -2,20 +2,21 @@
 use Prim.Native.Nat.{ℕ}
 use mathlib.Core.Path.{_≡_}
 use mathlib.Core.List.{List}
-use Rattle.octets.specs.Bytes.{Bytes}
+use Rattle.octets.specs.Bytes.{Bytes, be, zeros}
 use Rattle.modes.proofs.Cases.{mode-cases}
-use Rattle.layout.specs.Layout.{editionOf, keyClass, fit}
+use Rattle.layout.specs.Layout.{editionOf, keyClass, fit, firstEight, serialHeader, blankHeader, blankSlots, blankSheet}
 use Rattle.captions.specs.Answers.{outcome}
-use Rattle.captions.specs.Captions.{Keys, Ciphers, padded, newMark, startBlock, sealedField, checkOf, slotMark}
+use Rattle.captions.specs.Captions.{Keys, Ciphers, markBlock, keyMark, padded, newMark, startBlock, sealedField, checkOf, slotMark}
 use Rattle.captions.specs.Calls.{clearing}
 use Rattle.captions.specs.Claim.{Sound}
 use Rattle.captions.specs.declared.Answer.the-variants.{Accepted}
 use Rattle.captions.proofs.Editions.{editions-regular, edition-kept, fit-class}
 use Rattle.captions.proofs.ReadBack.{Read, accepted-read, length-caption, window-padded, field-sealed, mark-sealed}
 use Rattle.captions.proofs.WriteBack.{Wrote, accepted-write, WriteLeaves, write-back, Emptied, accepted-clear, ClearLeaves, clear-back}
-use Rattle.demands.specs.Ciphers.{byPaths, writingBy, readingBy}
-use Rattle.demands.specs.Demand2.{Shows, Stores, Empties, Demand2}
-use Rattle.demands.proofs.Ciphers.{paths-sound, classes-by-mcrypton, code-writes, code-reads}
+use Rattle.demands.specs.Ciphers.{byPaths, writingBy, readingBy, blankingBy}
+use Rattle.demands.specs.Demand2.{Shows, Stores, Empties, Makes, Demand2}
+use Rattle.demands.proofs.Ciphers.{paths-sound, classes-by-mcrypton, code-writes, code-reads, code-blanks}
+use Rattle.demands.proofs.Blanking.{blank-len, blank-is}
 
 -- ---- from sheet to caption
 
@@ -94,5 +95,20 @@ module _ (s : List ℕ) (i n : ℕ) (s′ : List ℕ) (accepted : clearing s i �
         others = cleared .others;
       }
 
+makes : (p : ℕ) (k : Keys) (b : List ℕ) (n t v m : ℕ) (s : List ℕ) → blankingBy p k b n t v ≡ outcome (Accepted m) s → Makes (byPaths t p p k) n t v m s
+unfolding blankingBy blankSheet blankSlots blankHeader serialHeader firstEight keyMark markBlock be zeros
+makes p k b n t v m s h = record { len = blank-len (byPaths t p p k) k b n t v m s h; sheet-is = blank-is (byPaths t p p k) k b n t v m s h }
+
 pub demand2 : Demand2
-demand2 = record { ciphers = classes-by-mcrypton; modes = mode-cases; reads = shows; writes = stores; clears = empties; code-write = code-writes; code-read = code-reads }
+demand2 =
+    record {
+      ciphers = classes-by-mcrypton;
+      modes = mode-cases;
+      reads = shows;
+      writes = stores;
+      clears = empties;
+      blanks = makes;
+      code-write = code-writes;
+      code-read = code-reads;
+      code-blank = code-blanks;
+    }

@@ -1,6 +1,10 @@
 pub mod Ciphers
 pub mod Demand2
 pub mod Demand3
+pub mod Blanking
 pub mod Premises
+pub mod Strangers
+pub mod Meeting
 pub mod Demand1
 pub mod Serials
+pub mod KeyMarks

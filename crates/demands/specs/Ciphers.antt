@@ -1,4 +1,4 @@
--- The cipher of demands 2 and 3: mCrypton by path numbers, for every key class, and the calls of write and read with it.
+-- The cipher of demands 2 and 3: mCrypton by path numbers, for every key class, and the calls of write, read and blanking with it.
 use Prim.Native.Nat.{ℕ}
 use mathlib.Core.Path.{_≡_}
 use mathlib.Core.Bool.{true}
@@ -11,7 +11,7 @@ use Rattle.cipher.specs.Key.{encryptBy, decryptBy}
 use Rattle.layout.specs.Layout.{editionOf, keyClass, fit}
 use Rattle.captions.specs.Answers.{Outcome}
 use Rattle.captions.specs.Captions.{Keys, Ciphers}
-use Rattle.captions.specs.Calls.{writingWith, readingWith, writing, reading}
+use Rattle.captions.specs.Calls.{writingWith, readingWith, blankingWith, writing, reading, blanking}
 
 -- the cipher of a key class: p is the path number of encryption, q that of decryption
 unfoldable pub byPaths : ℕ → ℕ → ℕ → Keys → Ciphers
@@ -28,6 +28,10 @@ writingBy p k s i c = writingWith (editionOf s) (byPaths (keyClass s) p p k) k s
 
 unfoldable pub readingBy : ℕ → ℕ → Keys → List ℕ → ℕ → List ℕ → Outcome
 readingBy p q k s i window = readingWith (editionOf s) (byPaths (keyClass s) p q k) k s i window
+
+-- blanking that makes the key mark by p
+unfoldable pub blankingBy : ℕ → Keys → List ℕ → ℕ → ℕ → ℕ → Outcome
+blankingBy p k s n t v = blankingWith (byPaths t p p k) k s n t v
 
 -- ---- what both demands say of them
 
@@ -46,9 +50,12 @@ pub record ClassesByMcrypton : Type 0 where
   -- and what comes out of it, on a block for each key size
   pub vectors : BlockVectors
 
--- the definitions that the contracts of write and read cite are these, by any path numbers
+-- the definitions that the contracts of write, read and blanking cite are these, by any path numbers
 abbrev pub CodeWrites : Type 0
 CodeWrites = (p : ℕ) (k : Keys) (s : List ℕ) (i : ℕ) (c : List ℕ) → writingBy p k s i c ≡ writing k s i c
 
 abbrev pub CodeReads : Type 0
 CodeReads = (p q : ℕ) (k : Keys) (s : List ℕ) (i : ℕ) (window : List ℕ) → readingBy p q k s i window ≡ reading k s i window
+
+abbrev pub CodeBlanks : Type 0
+CodeBlanks = (p : ℕ) (k : Keys) (s : List ℕ) (n t v : ℕ) → blankingBy p k s n t v ≡ blanking k s n t v

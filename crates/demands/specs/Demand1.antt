@@ -9,7 +9,7 @@ pub record Demand1 : Type 0 where
   pub blocks : BlockRefusals
   -- CMAC: 1 3
   pub cmac : MacRefusals
-  -- blanking: 1 3; writing: 1 2 4 5 6 7 8; clearing: 4 6; reading: 1 2 3 4 5 6 9 10
+  -- blanking: 1 2 3 5; writing: 1 2 4 5 14 6 7 8; clearing: 4 6; reading: 1 2 3 4 5 14 6 9 10
   pub sheets : SheetRefusals
   -- where the numbers that the tests look at stand in a sheet
   pub places : Places

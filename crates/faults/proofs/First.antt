@@ -15,7 +15,7 @@ use Rattle.octets.specs.Clauses.{Each, none, and}
 use Rattle.octets.proofs.Bool.{and-left, and-right, and-both}
 use Rattle.octets.proofs.Clauses.{Reflects, reflects-not, reflects-and, reflects-or, reflects-as, reflects-eqb, reflects-leb, reflects-ltb, reflects-yes}
 use Rattle.cipher.specs.Key.{mcryptonClass}
-use Rattle.layout.specs.Layout.{Edition, edition1, edition2, editionOf, rule1, rule2, slots, keyClass, editionByte, lastWrite, slotCount, sheetSize, markNumber, markLength, mark, blankSlot, fitSlot, fit}
+use Rattle.layout.specs.Layout.{Edition, edition1, edition2, editionOf, rule1, rule2, rule3, slots, keyClass, editionByte, lastWrite, slotCount, sheetSize, markNumber, markLength, mark, blankSlot, fitSlot, fit}
 use Rattle.layout.specs.Rules.{Words, MeetsLayout}
 use Rattle.layout.proofs.Header.{edition-cases, count-low, count-high, count-within}
 use Rattle.layout.proofs.Fits.{Rules, Fits, fit-facts, fits-fit, length-mark}
@@ -44,9 +44,9 @@ module _ (s : List ℕ) where
   unfolding slotCount
   reflects-count = reflects-not (reflects-and (reflects-leb 1 (slots s)) (reflects-leb (slots s) 256))
 
-  reflects-edition : Reflects (not (editionKnown (editionByte s))) ((editionByte s ≡ 1) ⊎ (editionByte s ≡ 2) → ⊥)
+  reflects-edition : Reflects (not (editionKnown (editionByte s))) ((editionByte s ≡ 1) ⊎ ((editionByte s ≡ 2) ⊎ (editionByte s ≡ 3)) → ⊥)
   unfolding editionKnown
-  reflects-edition = reflects-not (reflects-or (reflects-eqb (editionByte s) 1) (reflects-eqb (editionByte s) 2))
+  reflects-edition = reflects-not (reflects-or (reflects-eqb (editionByte s) 1) (reflects-or (reflects-eqb (editionByte s) 2) (reflects-eqb (editionByte s) 3)))
 
   reflects-size : Reflects (not (eqb (length s) (sheetSize (editionOf s .header) (slots s)))) (length s ≡ editionOf s .header + 208 * slots s → ⊥)
   unfolding sheetSize
@@ -157,10 +157,10 @@ module _ (s : List ℕ) where
     zero-bytes : eqb (editionByte s) 2 && not (allZero (part s 10 6)) ≡ false
 
   rule-rows : editionOf s .rule s ≡ true → Header3
-  unfolding rule1 rule2 editionKnown
+  unfolding rule1 rule2 rule3 editionKnown
   rule-rows =
       edition-cases (λ e. e .rule s ≡ true → Header3) s
-      (λ g h. record {
+      (λ g f h. record {
         class = and-left (mcryptonClass (keyClass s)) _ h;
         known = rw (and-right (mcryptonClass (keyClass s)) _ h);
         zero-bytes = rw (ne-eqb (editionByte s) 2 g);
@@ -170,17 +170,20 @@ module _ (s : List ℕ) where
         known = rw g;
         zero-bytes = rw (and-left (eqb (editionByte s) 2) _ z, and-right (eqb (editionByte s) 2) _ z);
       })
+      (λ g h. record { class = and-left (mcryptonClass (keyClass s)) _ h; known = rw g; zero-bytes = rw g })
 
   rows-rule : Header3 → editionOf s .rule s ≡ true
-  unfolding rule1 rule2 editionKnown
+  unfolding rule1 rule2 rule3 editionKnown
   rows-rule r =
       edition-cases (λ e. e .rule s ≡ true) s
-      (λ g. rw (r .class) (one (eqb (editionByte s) 1) (eqb (editionByte s) 2) (ne-eqb (editionByte s) 2 g) (r .known)))
+      (λ g f. rw (r .class) (one (eqb (editionByte s) 1) (eqb (editionByte s) 2) (eqb (editionByte s) 3) (ne-eqb (editionByte s) 2 g) (ne-eqb (editionByte s) 3 f) (r .known)))
       (λ g. rw (r .class, eq-eqb (editionByte s) 2 g) (two (allZero (part s 10 6)) (rw (eq-eqb (editionByte s) 2 g) at (r .zero-bytes))))
+      (λ g. rw (r .class, eq-eqb (editionByte s) 3 g))
     where
-      one : (a b : Bool) → b ≡ false → a || b ≡ true → a ≡ true
-      one true b f h = refl
-      one false b f h = sym f ∙ h
+      one : (a b c : Bool) → b ≡ false → c ≡ false → a || (b || c) ≡ true → a ≡ true
+      one true b c f g h = refl
+      one false true c f g h = sym f
+      one false false c f g h = sym g ∙ h
 
       two : (b : Bool) → not b ≡ false → b ≡ true
       two true h = refl

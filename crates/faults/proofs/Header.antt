@@ -25,9 +25,13 @@ pub known-one : (v : ℕ) → v ≡ 1 → true ≡ editionKnown v
 unfolding editionKnown
 known-one v e = rw (eq-eqb v 1 e)
 
-pub known-two : (v : ℕ) → (v ≡ 1 → ⊥) → eqb v 2 ≡ editionKnown v
+pub known-two : (v : ℕ) → (v ≡ 1 → ⊥) → v ≡ 2 → true ≡ editionKnown v
 unfolding editionKnown
-known-two v n = rw (ne-eqb v 1 n)
+known-two v n e = rw (ne-eqb v 1 n, eq-eqb v 2 e)
+
+pub known-three : (v : ℕ) → (v ≡ 1 → ⊥) → (v ≡ 2 → ⊥) → eqb v 3 ≡ editionKnown v
+unfolding editionKnown
+known-three v n m = rw (ne-eqb v 1 n, ne-eqb v 2 m)
 
 module _ (s : List ℕ) where
   pub fault-short : length s < 8 → Header Short ≡ firstFault s

@@ -21,6 +21,7 @@ fault-cases =
       byte-11 = refl;
       eight-bytes = refl;
       eleven-bytes = refl;
+      key-mark-byte = refl;
       zero-mark = refl;
       above-w = refl;
       length-193 = refl;

@@ -29,9 +29,9 @@ firstSet s a n = a + zerosBefore (part s a n)
 
 -- ---- the faults, in their order
 
--- byte 3 is 1 or 2
+-- byte 3 is 1, 2 or 3
 unfoldable pub editionKnown : ℕ → Bool
-editionKnown v = eqb v 1 || eqb v 2
+editionKnown v = eqb v 1 || (eqb v 2 || eqb v 3)
 
 -- a slot that isn't all zero is held to the rules of a written one: its number is from 1 to w
 unfoldable pub wrongNumber : Edition → List ℕ → ℕ → Bool

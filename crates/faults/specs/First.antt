@@ -19,7 +19,7 @@ pub data Breaks (s : List ℕ) : Fault → Point → Type 0 where
   short : length s < 8 → Breaks s (Header Short) (point 1 0 0)
   count : ((1 ≤ slots s) × (slots s ≤ 256) → ⊥) → Breaks s (Header Count) (point 2 0 0)
   class : (Words (keyClass s) → ⊥) → Breaks s (Header Class) (point 3 0 0)
-  edition : ((editionByte s ≡ 1) ⊎ (editionByte s ≡ 2) → ⊥) → Breaks s (Header EditionRule) (point 4 0 0)
+  edition : ((editionByte s ≡ 1) ⊎ ((editionByte s ≡ 2) ⊎ (editionByte s ≡ 3)) → ⊥) → Breaks s (Header EditionRule) (point 4 0 0)
   header-byte : (j : ℕ) → editionByte s ≡ 2 → 10 ≤ j → j < 16 → (getD s j 0 ≡ 0 → ⊥) → Breaks s (Header (HeaderZero j)) (point 5 0 j)
   size : (length s ≡ editionOf s .header + 208 * slots s → ⊥) → Breaks s (Header SheetLength) (point 6 0 0)
   number : (i : ℕ) → i < slots s → blankSlot (editionOf s) s i ≡ false
@@ -65,6 +65,8 @@ pub record FaultCases : Type 0 where
   pub byte-11 : pointOf (0 ∷ 1 ∷ 4 ∷ 2 ∷ 0 ∷ 0 ∷ 0 ∷ 0 ∷ 0 ∷ 0 ∷ 0 ∷ 1 ∷ []) ≡ point 5 0 11
   pub eight-bytes : pointOf (0 ∷ 1 ∷ 4 ∷ 2 ∷ zeros 4) ≡ point 6 0 0
   pub eleven-bytes : pointOf (0 ∷ 1 ∷ 4 ∷ 2 ∷ zeros 7) ≡ point 6 0 0
+  -- the same twelve bytes of edition 3, where byte 11 is the key mark's and has no rule
+  pub key-mark-byte : pointOf (0 ∷ 1 ∷ 4 ∷ 3 ∷ 0 ∷ 0 ∷ 0 ∷ 0 ∷ 0 ∷ 0 ∷ 0 ∷ 1 ∷ []) ≡ point 6 0 0
   -- a zero mark over a field that isn't; a number above w
   pub zero-mark : pointOf (twoSlots (marked 1 5 0) (marked 0 0 0) 7) ≡ point 7 1 0
   pub above-w : pointOf (twoSlots (marked 2 5 0) (marked 0 0 0) 0) ≡ point 7 0 0

@@ -57,7 +57,10 @@ fn edition_known(v: usize) -> bool
     if v == 1 {
         return true;
     }
-    v == 2
+    if v == 2 {
+        return true;
+    }
+    v == 3
 }
 
 // The first of the header's zero bytes that isn't, or 16.

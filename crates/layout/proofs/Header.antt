@@ -1,6 +1,6 @@
 -- Laws of the header's fields and its rule, one for each way out of a function that decides them.
 use mathlib.Core.Path.{_≡_, refl, sym, _∙_}
-use mathlib.Core.Bool.{Bool, true, false, _&&_}
+use mathlib.Core.Bool.{Bool, true, false, _&&_, _||_, false≢true}
 use mathlib.Core.List.{List}
 use Prim.Native.Nat.{ℕ, _+_, _≤_, _<_}
 use native.Mathlib.Omega.{arith}
@@ -14,8 +14,8 @@ use Rattle.octets.proofs.Numbers.{number-part-lt}
 use Rattle.cipher.specs.Key.{mcryptonClass, classKnown}
 use Rattle.cipher.proofs.Promise.{mcrypton-known}
 use Rattle.layout.specs.declared.Shape.{Shape}
-use Rattle.layout.specs.Layout.{Edition, edition1, edition2, slots, keyClass, editionByte, lastWrite, serial, editionOf, rule1, rule2, slotCount, sheetSize}
-use Rattle.layout.specs.Shape.{shapeOf}
+use Rattle.layout.specs.Layout.{Edition, edition1, edition2, edition3, slots, keyClass, editionByte, lastWrite, serial, editionOf, rule1, rule2, rule3, slotCount, sheetSize}
+use Rattle.layout.specs.Shape.{hasSerial, shapeOf}
 
 -- ---- one byte as a number
 
@@ -71,44 +71,76 @@ module _ (s : List ℕ) (b : Bytes s) (h : 8 ≤ length s) where
 -- ---- the edition
 
 -- by cases of the edition; beside this law only those look into the choice that say that sheets with one byte 3 have one edition
-pub edition-cases : (P : Edition → Type 0) (s : List ℕ) → ((editionByte s ≡ 2 → ⊥) → P edition1) → (editionByte s ≡ 2 → P edition2) → P (editionOf s)
+pub edition-cases : (P : Edition → Type 0) (s : List ℕ) → ((editionByte s ≡ 2 → ⊥) → (editionByte s ≡ 3 → ⊥) → P edition1)
+    → (editionByte s ≡ 2 → P edition2) → (editionByte s ≡ 3 → P edition3) → P (editionOf s)
 unfolding editionOf
-edition-cases P s one two = go (eqb (editionByte s) 2) refl
+edition-cases P s one two three = go (eqb (editionByte s) 2) (eqb (editionByte s) 3) refl refl
   where
-    go : (b : Bool) → eqb (editionByte s) 2 ≡ b → P (if b then edition2 else edition1)
-    go true h = two (eqb-true (editionByte s) 2 h)
-    go false h = one (eqb-false (editionByte s) 2 h)
+    go : (b c : Bool) → eqb (editionByte s) 2 ≡ b → eqb (editionByte s) 3 ≡ c → P (if b then edition2 else if c then edition3 else edition1)
+    go true c h g = two (eqb-true (editionByte s) 2 h)
+    go false true h g = three (eqb-true (editionByte s) 3 g)
+    go false false h g = one (eqb-false (editionByte s) 2 h) (eqb-false (editionByte s) 3 g)
+
+pub edition-three : (s : List ℕ) → editionByte s ≡ 3 → editionOf s ≡ edition3
+edition-three s h = edition-cases (λ e. e ≡ edition3) s (λ f g. absurd (g h)) (λ g. absurd (omega (arith, g, h))) (λ g. refl)
 
 pub edition-two : (s : List ℕ) → editionByte s ≡ 2 → editionOf s ≡ edition2
-edition-two s h = edition-cases (λ e. e ≡ edition2) s (λ g. absurd (g h)) (λ g. refl)
+edition-two s h = edition-cases (λ e. e ≡ edition2) s (λ f g. absurd (f h)) (λ g. refl) (λ g. absurd (omega (arith, g, h)))
 
-pub edition-one : (s : List ℕ) → (editionByte s ≡ 2 → ⊥) → editionOf s ≡ edition1
-edition-one s h = edition-cases (λ e. e ≡ edition1) s (λ g. refl) (λ g. absurd (h g))
+pub edition-one : (s : List ℕ) → (editionByte s ≡ 2 → ⊥) → (editionByte s ≡ 3 → ⊥) → editionOf s ≡ edition1
+edition-one s h k = edition-cases (λ e. e ≡ edition1) s (λ f g. refl) (λ g. absurd (h g)) (λ g. absurd (k g))
 
 -- a header is small in every edition
 pub header-small : (s : List ℕ) → editionOf s .header ≤ 16
-header-small s = edition-cases (λ e. e .header ≤ 16) s (λ h. omega arith) (λ h. omega arith)
+header-small s = edition-cases (λ e. e .header ≤ 16) s (λ f g. omega arith) (λ h. omega arith) (λ h. omega arith)
 
 pub header-holds : (s : List ℕ) → 8 ≤ editionOf s .header
-header-holds s = edition-cases (λ e. 8 ≤ e .header) s (λ h. omega arith) (λ h. omega arith)
+header-holds s = edition-cases (λ e. 8 ≤ e .header) s (λ f g. omega arith) (λ h. omega arith) (λ h. omega arith)
+
+-- y is a byte 3
+pub serial-two : (y : ℕ) → y ≡ 2 → true ≡ hasSerial y
+unfolding hasSerial
+serial-two y h = rw (eq-eqb y 2 h)
+
+pub serial-other : (y : ℕ) → (y ≡ 2 → ⊥) → eqb y 3 ≡ hasSerial y
+unfolding hasSerial
+serial-other y h = rw (ne-eqb y 2 h)
+
+-- the editions with a serial
+pub serial-cases : (P : Edition → Type 0) (s : List ℕ) → hasSerial (editionByte s) ≡ true → P edition2 → P edition3 → P (editionOf s)
+unfolding hasSerial
+serial-cases P s h two three =
+    edition-cases P s (λ f g. absurd (false≢true (rw (ne-eqb (editionByte s) 2 f, ne-eqb (editionByte s) 3 g) at h))) (λ g. two) (λ g. three)
+
+pub no-serial : (s : List ℕ) → hasSerial (editionByte s) ≡ false → editionOf s ≡ edition1
+unfolding hasSerial
+no-serial s h = go (eqb (editionByte s) 2) (eqb (editionByte s) 3) refl refl h
+  where
+    go : (b c : Bool) → eqb (editionByte s) 2 ≡ b → eqb (editionByte s) 3 ≡ c → b || c ≡ false → editionOf s ≡ edition1
+    go true c p q r = absurd (false≢true (sym r))
+    go false true p q r = absurd (false≢true (sym r))
+    go false false p q r = edition-one s (eqb-false (editionByte s) 2 p) (eqb-false (editionByte s) 3 q)
 
 pub header-long : (s : List ℕ) → editionOf s .header ≤ length s → 8 ≤ length s
 header-long s h = omega (arith, header-holds s)
 
 pub rule-class : (s : List ℕ) → editionOf s .rule s ≡ true → classKnown (keyClass s) ≡ true
-unfolding rule1 rule2
+unfolding rule1 rule2 rule3
 rule-class s h =
     mcrypton-known (keyClass s)
     (edition-cases (λ e. e .rule s ≡ true → mcryptonClass (keyClass s) ≡ true) s
-    (λ g. and-left (mcryptonClass (keyClass s)) _) (λ g. and-left (mcryptonClass (keyClass s)) _) h)
+    (λ f g. and-left (mcryptonClass (keyClass s)) _) (λ g. and-left (mcryptonClass (keyClass s)) _) (λ g. and-left (mcryptonClass (keyClass s)) _) h)
 
--- y is what was read of byte 3
-module _ (s : List ℕ) (h : 8 ≤ length s) (y : ℕ) (e : y ≡ getD s 3 0) where
-  pub size-two : y ≡ 2 → 16 ≡ editionOf s .header
-  size-two q = rw (edition-two s (sym (edition-read s y h e) ∙ q))
+-- y is what was read of byte 3, k what was found of it
+module _ (s : List ℕ) (h : 8 ≤ length s) (y : ℕ) (e : y ≡ getD s 3 0) (k : Bool) (f : k ≡ hasSerial y) where
+  serial-found : hasSerial (editionByte s) ≡ k
+  serial-found = rw (← edition-read s y h e, f)
 
-  pub size-one : (y ≡ 2 → ⊥) → 8 ≡ editionOf s .header
-  size-one q = rw (edition-one s (λ p. q (edition-read s y h e ∙ p)))
+  pub size-two : k ≡ true → 16 ≡ editionOf s .header
+  size-two q = serial-cases (λ d. 16 ≡ d .header) s (serial-found ∙ q) refl refl
+
+  pub size-one : k ≡ false → 8 ≡ editionOf s .header
+  size-one q = rw (no-serial s (serial-found ∙ q))
 
 module _ (s : List ℕ) (l : editionOf s .header ≤ length s) where
   pub header-byte : 3 < length s
@@ -125,20 +157,29 @@ module _ (s : List ℕ) (l : editionOf s .header ≤ length s) where
     is-two : y ≡ 2 → editionOf s ≡ edition2
     is-two q = edition-two s (sym (edition-read s y (header-long s l) e) ∙ q)
 
-    is-one : (y ≡ 2 → ⊥) → editionOf s ≡ edition1
-    is-one q = edition-one s (λ p. q (edition-read s y (header-long s l) e ∙ p))
+    is-three : y ≡ 3 → editionOf s ≡ edition3
+    is-three q = edition-three s (sym (edition-read s y (header-long s l) e) ∙ q)
+
+    is-one : (y ≡ 2 → ⊥) → (y ≡ 3 → ⊥) → editionOf s ≡ edition1
+    is-one q r = edition-one s (λ p. q (edition-read s y (header-long s l) e ∙ p)) (λ p. r (edition-read s y (header-long s l) e ∙ p))
 
     pub two-long : y ≡ 2 → 16 ≤ length s
     two-long q = rw (is-two q) at l
 
-    pub two-inside : y ≡ 2 → (a n : ℕ) → a + n ≤ 16 → a + n ≤ length s
-    two-inside q a n h = omega (arith, two-long q)
+    -- k is what was found of it
+    module _ (k : Bool) (f : k ≡ hasSerial y) where
+      has : k ≡ true → hasSerial (editionByte s) ≡ true
+      has q = serial-found s (header-long s l) y e k f ∙ q
 
-    pub tail-two : y ≡ 2 → (x : ℕ) → x ≡ number (part s 8 2) → x ≡ editionOf s .tail s
-    tail-two q x f = f ∙ rw (is-two q) (unfold serial in refl)
+      pub serial-inside : k ≡ true → (a n : ℕ) → a + n ≤ 16 → a + n ≤ length s
+      serial-inside q a n h = omega (arith, serial-cases (λ d. d .header ≤ length s → 16 ≤ length s) s (has q) (λ g. g) (λ g. g) l)
 
-    pub tail-one : (y ≡ 2 → ⊥) → 0 ≡ editionOf s .tail s
-    tail-one q = rw (is-one q)
+      pub tail-two : k ≡ true → (x : ℕ) → x ≡ number (part s 8 2) → x ≡ editionOf s .tail s
+      unfolding serial
+      tail-two q x g = g ∙ serial-cases (λ d. number (part s 8 2) ≡ d .tail s) s (has q) refl refl
+
+      pub tail-one : k ≡ false → 0 ≡ editionOf s .tail s
+      tail-one q = rw (no-serial s (serial-found s (header-long s l) y e k f ∙ q))
 
   -- the edition's rule: x is what was read of byte 2, k what was found of it
   module _ (x : ℕ) (e : x ≡ getD s 2 0) (k : Bool) (f : k ≡ mcryptonClass x) where
@@ -146,17 +187,21 @@ module _ (s : List ℕ) (l : editionOf s .header ≤ length s) where
     class-found = rw (← class-read s x (header-long s l) e, f)
 
     pub rule-other : k ≡ false → false ≡ editionOf s .rule s
-    unfolding rule1 rule2
-    rule-other t = edition-cases (λ (d : Edition). false ≡ d .rule s) s (λ h. rw (class-found ∙ t)) (λ h. rw (class-found ∙ t))
+    unfolding rule1 rule2 rule3
+    rule-other t = edition-cases (λ (d : Edition). false ≡ d .rule s) s (λ f g. rw (class-found ∙ t)) (λ h. rw (class-found ∙ t)) (λ h. rw (class-found ∙ t))
 
     module _ (t : k ≡ true) (y : ℕ) (g : y ≡ getD s 3 0) where
       pub rule-two : y ≡ 2 → (r : Bool) → r ≡ allZero (part s 10 6) → r ≡ editionOf s .rule s
       unfolding rule2
       rule-two q r u = u ∙ rw (is-two y g q, class-found ∙ t, ← edition-read s y (header-long s l) g, eq-eqb y 2 q)
 
-      pub rule-one : (y ≡ 2 → ⊥) → eqb y 1 ≡ editionOf s .rule s
+      pub rule-three : y ≡ 3 → true ≡ editionOf s .rule s
+      unfolding rule3
+      rule-three q = rw (is-three y g q, class-found ∙ t, ← edition-read s y (header-long s l) g, eq-eqb y 3 q)
+
+      pub rule-one : (y ≡ 2 → ⊥) → (y ≡ 3 → ⊥) → eqb y 1 ≡ editionOf s .rule s
       unfolding rule1
-      rule-one q = rw (is-one y g q, class-found ∙ t, ← edition-read s y (header-long s l) g)
+      rule-one q r = rw (is-one y g q r, class-found ∙ t, ← edition-read s y (header-long s l) g)
 
 -- ---- the size: n is what was read of bytes 0 and 1, r what was found of it
 

@@ -15,10 +15,10 @@ use Rattle.octets.proofs.Parts.{length-part}
 use Rattle.octets.proofs.Zeros.{allZero-zeros, allZero-is}
 use Rattle.cipher.specs.Key.{mcryptonClass}
 use Rattle.cipher.proofs.Promise.{mcrypton-cases}
-use Rattle.layout.specs.Layout.{Edition, edition1, edition2, rule1, rule2, editionOf, editionByte, keyClass, slots, lastWrite, sheetSize, mark, field, writtenMark, blankSlot, fitSlot, fitIn, fit}
-use Rattle.layout.specs.Rules.{Words, four, six, eight, IsBlank, IsWritten, Edition1, Edition2, MeetsLayout, one, two}
+use Rattle.layout.specs.Layout.{Edition, edition1, edition2, edition3, rule1, rule2, rule3, editionOf, editionByte, keyClass, slots, lastWrite, sheetSize, mark, field, writtenMark, blankSlot, fitSlot, fitIn, fit}
+use Rattle.layout.specs.Rules.{Words, four, six, eight, IsBlank, IsWritten, Edition1, Edition2, Edition3, MeetsLayout, one, two, three}
 use Rattle.layout.specs.Rules as Said
-use Rattle.layout.proofs.Header.{count-low, count-high, count-within, edition-cases, edition-one, edition-two}
+use Rattle.layout.proofs.Header.{count-low, count-high, count-within, edition-cases, edition-one, edition-two, edition-three}
 use Rattle.layout.proofs.Fits.{Rules, fit-rules, rules-fit, mark-written, written-mark, length-mark, length-field}
 
 -- ---- t
@@ -139,19 +139,33 @@ two-rule s m =
     and-both (mcryptonClass (keyClass s)) _ (words-known (m .words))
     (and-both (eqb (editionByte s) 2) _ (eq-eqb (editionByte s) 2 (m .edition)) (zeros-all (part s 10 6) 6 (m .six-zeros)))
 
+rule-three : (s : List ℕ) → rule3 s ≡ true → Edition3 s
+unfolding rule3
+rule-three s h =
+    record {
+      words = reflects-words (keyClass s) .holds (and-left (mcryptonClass (keyClass s)) (eqb (editionByte s) 3) h);
+      edition = eqb-true (editionByte s) 3 (and-right (mcryptonClass (keyClass s)) (eqb (editionByte s) 3) h);
+    }
+
+three-rule : (s : List ℕ) → Edition3 s → rule3 s ≡ true
+unfolding rule3
+three-rule s m = and-both (mcryptonClass (keyClass s)) (eqb (editionByte s) 3) (words-known (m .words)) (eq-eqb (editionByte s) 3 (m .edition))
+
 -- a sheet is fit exactly if it meets the layout
 fit-meets : (s : List ℕ) → fit s ≡ true → MeetsLayout s
 unfolding fit sheetSize
 fit-meets s =
     edition-cases (λ e. fitIn e s ≡ true → MeetsLayout s) s
-    (λ g h. let r = fit-rules edition1 s h in one (said-rules edition1 s r) (rule-one s (r .rule)))
+    (λ f g h. let r = fit-rules edition1 s h in one (said-rules edition1 s r) (rule-one s (r .rule)))
     (λ g h. let r = fit-rules edition2 s h in two (said-rules edition2 s r) (rule-two s (omega (arith, r .size)) (r .rule)))
+    (λ g h. let r = fit-rules edition3 s h in three (said-rules edition3 s r) (rule-three s (r .rule)))
 
 meets-fit : (s : List ℕ) → MeetsLayout s → fit s ≡ true
 unfolding fit
 meets-fit s (one r m) =
-    rw (edition-one s (λ g. absurd (omega (arith, g, m .edition)))) (rules-fit edition1 s (rules-said edition1 s (one-rule s m) r))
+    rw (edition-one s (λ g. absurd (omega (arith, g, m .edition))) (λ g. absurd (omega (arith, g, m .edition)))) (rules-fit edition1 s (rules-said edition1 s (one-rule s m) r))
 meets-fit s (two r m) = rw (edition-two s (m .edition)) (rules-fit edition2 s (rules-said edition2 s (two-rule s m) r))
+meets-fit s (three r m) = rw (edition-three s (m .edition)) (rules-fit edition3 s (rules-said edition3 s (three-rule s m) r))
 
 pub reflects-fit : (s : List ℕ) → Reflects (fit s) (MeetsLayout s)
 reflects-fit s = record { holds = fit-meets s; fails = λ h m. false≢true (sym h ∙ meets-fit s m) }
@@ -159,3 +173,4 @@ reflects-fit s = record { holds = fit-meets s; fails = λ h m. false≢true (sym
 pub meets-few : {s : List ℕ} → MeetsLayout s → slots s ≤ 256
 meets-few (one r m) = r .slots-to-256
 meets-few (two r m) = r .slots-to-256
+meets-few (three r m) = r .slots-to-256

@@ -9,22 +9,22 @@ use Rattle.octets.specs.Bytes.{be, number, zeros, part, put}
 use Rattle.octets.proofs.Numbers.{length-be}
 use Rattle.octets.proofs.Parts.{length-put, part-put-before, part-put-after}
 use Rattle.layout.specs.declared.Shape.{Shape}
-use Rattle.layout.specs.Layout.{newEdition, editionOf, slots, keyClass, editionByte, serial, sheetSize, markAt, fieldAt, storeSlot, storeLast, firstEight, blankHeader, blankSlots, blankSheet}
+use Rattle.layout.specs.Layout.{newEdition, editionOf, slots, keyClass, editionByte, serial, sheetSize, markAt, fieldAt, storeSlot, storeLast, firstEight, serialHeader, blankHeader, blankSlots, blankSheet}
 use Rattle.layout.specs.Shape.{shapeOf, SlotIn}
 use Rattle.layout.proofs.Header.{edition-cases, header-holds}
 use Rattle.layout.proofs.Slots.{header-is, slots-are}
 
--- the six stores of the header into zeros
-pub blank-stored : (s l : List ℕ) (n t x : ℕ) → l ≡ zeros (length s) → length s ≡ sheetSize (newEdition .header) n → n ≤ 256 → t < 256 → x < 65536
-    → set (set (set (set (set (set l 0 (n / 256)) 1 (n % 256)) 2 t) 3 2) 8 (x / 256)) 9 (x % 256) ≡ blankSheet n t x
-unfolding blankSheet blankSlots blankHeader firstEight zeros be sheetSize
-blank-stored s l n t x e f h g d =
+-- the stores of the header into zeros: the key mark, and six bytes
+pub blank-stored : (s l r m : List ℕ) (n t x : ℕ) → l ≡ zeros (length s) → r ≡ put l 10 m → length m ≡ 6 → length s ≡ sheetSize (newEdition .header) n → n ≤ 256 → t < 256 → x < 65536
+    → set (set (set (set (set (set r 0 (n / 256)) 1 (n % 256)) 2 t) 3 3) 8 (x / 256)) 9 (x % 256) ≡ blankSheet n t x m
+unfolding blankSheet blankSlots blankHeader serialHeader firstEight zeros be sheetSize put
+blank-stored s l r m n t x e is six f h g d =
     let k : length s ≡ 16 + 208 * n = f in
     let z : l ≡ replicate 16 0 ++ replicate (208 * n) 0 = e ∙ rw k (sym (replicate-append-replicate 16 (208 * n) 0)) in
     let a : n / 256 % 256 ≡ n / 256 = mod-eq-of-lt (omega arith) in
     let b : t % 256 ≡ t = mod-eq-of-lt g in
     let c : x / 256 % 256 ≡ x / 256 = mod-eq-of-lt (omega arith) in
-    rw (z, div-one n, div-one t, div-one x, a, b, c)
+    rw (is, z, six, div-one n, div-one t, div-one x, a, b, c)
 
 -- all bytes of a slot
 pub slot-zeroed : (s t u : List ℕ) (h : Shape) (i a b : ℕ) → SlotIn s h i → b ≡ fieldAt (h .header) (h .slots) i → t ≡ put s b (zeros 192)
@@ -53,7 +53,7 @@ module _ (s t : List ℕ) (n : part t 0 2 ≡ part s 0 2) (c : part t 2 1 ≡ pa
 
   tail-same : editionOf s .tail t ≡ editionOf s .tail s
   unfolding serial
-  tail-same = edition-cases (λ d. (d .header ≡ 16 → part t 8 2 ≡ part s 8 2) → d .tail t ≡ d .tail s) s (λ h g. refl) (λ h g. ap number (g refl)) x
+  tail-same = edition-cases (λ d. (d .header ≡ 16 → part t 8 2 ≡ part s 8 2) → d .tail t ≡ d .tail s) s (λ f h g. refl) (λ h g. ap number (g refl)) (λ h g. ap number (g refl)) x
 
   shape-same : shapeOf t ≡ shapeOf s
   unfolding shapeOf slots keyClass

@@ -1,6 +1,6 @@
--- The layout of a sheet (document 01, "The sheet", and document 02, request 3): a header, then n marks of 16 bytes, then n sealed fields of 192 bytes.
+-- The layout of a sheet (document 01, "The sheet", and document 02, requests 3 and 7): a header, then n marks of 16 bytes, then n sealed fields of 192 bytes.
 use Prim.Native.Nat.{ℕ, _+_, _*_}
-use mathlib.Core.Bool.{Bool, _&&_, _||_}
+use mathlib.Core.Bool.{Bool, true, false, _&&_, _||_}
 use mathlib.Core.List.{List, _++_}
 use lib.Dec.{eqb, leb}
 use lib.ListN.{length}
@@ -29,6 +29,10 @@ lastWrite s = number (part s 4 4)
 unfoldable pub serial : List ℕ → ℕ
 serial s = number (part s 8 2)
 
+-- bytes 10 to 15 in edition 3: the key mark, made at blanking
+unfoldable pub storedMark : List ℕ → List ℕ
+storedMark s = part s 10 6
+
 -- what an edition settles
 pub record Edition : Type 0 where
   -- the size of its header
@@ -37,13 +41,15 @@ pub record Edition : Type 0 where
   pub rule : List ℕ → Bool
   -- the last two bytes, as a number, of the block that is encrypted to make a start block
   pub tail : List ℕ → ℕ
+  -- whether its sheets have a key mark
+  pub keyed : Bool
 
 -- t is 4, 6 or 8, and the edition 1
 unfoldable pub rule1 : List ℕ → Bool
 rule1 s = mcryptonClass (keyClass s) && eqb (editionByte s) 1
 
 abbrev pub edition1 : Edition
-edition1 = record { header = 8; rule = rule1; tail = λ s. 0 }
+edition1 = record { header = 8; rule = rule1; tail = λ s. 0; keyed = false }
 
 -- t is 4, 6 or 8, the edition 2, and six zero bytes come after the serial
 unfoldable pub rule2 : List ℕ → Bool
@@ -51,15 +57,23 @@ rule2 s = mcryptonClass (keyClass s) && (eqb (editionByte s) 2 && allZero (part 
 
 -- the serial stands where edition 1 has two zero bytes in the block that is encrypted to make a start block
 abbrev pub edition2 : Edition
-edition2 = record { header = 16; rule = rule2; tail = serial }
+edition2 = record { header = 16; rule = rule2; tail = serial; keyed = false }
 
--- the edition of a sheet: 2 in byte 3 is edition 2, and any other value is held to edition 1's rule, which 1 alone passes
+-- t is 4, 6 or 8, and the edition 3: the key mark has no rule
+unfoldable pub rule3 : List ℕ → Bool
+rule3 s = mcryptonClass (keyClass s) && eqb (editionByte s) 3
+
+-- the six zero bytes of edition 2 are a key mark
+abbrev pub edition3 : Edition
+edition3 = record { header = 16; rule = rule3; tail = serial; keyed = true }
+
+-- the edition of a sheet: 2 in byte 3 is edition 2, 3 is edition 3, and any other value is held to edition 1's rule, which 1 alone passes
 unfoldable pub editionOf : List ℕ → Edition
-editionOf s = if eqb (editionByte s) 2 then edition2 else edition1
+editionOf s = if eqb (editionByte s) 2 then edition2 else if eqb (editionByte s) 3 then edition3 else edition1
 
 -- the edition that blanking makes
 abbrev pub newEdition : Edition
-newEdition = edition2
+newEdition = edition3
 
 -- ---- marks and fields
 
@@ -141,9 +155,17 @@ blankSlots header n = header ++ zeros (208 * n)
 unfoldable pub blankSheet1 : ℕ → ℕ → List ℕ
 blankSheet1 n t = blankSlots (firstEight 1 n t) n
 
--- blanking stores n, t, edition 2, w = 0, the serial x and zeros
-unfoldable pub blankHeader : ℕ → ℕ → ℕ → List ℕ
-blankHeader n t x = firstEight 2 n t ++ (be 2 x ++ zeros 6)
+-- bytes 0 to 15 of a header: those of the edition v, the serial x and the six bytes m
+unfoldable pub serialHeader : ℕ → ℕ → ℕ → ℕ → List ℕ → List ℕ
+serialHeader v n t x m = firstEight v n t ++ (be 2 x ++ m)
 
-unfoldable pub blankSheet : ℕ → ℕ → ℕ → List ℕ
-blankSheet n t x = blankSlots (blankHeader n t x) n
+-- a blank sheet of edition 2, with the serial x
+unfoldable pub blankSheet2 : ℕ → ℕ → ℕ → List ℕ
+blankSheet2 n t x = blankSlots (serialHeader 2 n t x (zeros 6)) n
+
+-- blanking stores n, t, edition 3, w = 0, the serial x, the key mark m and zeros
+unfoldable pub blankHeader : ℕ → ℕ → ℕ → List ℕ → List ℕ
+blankHeader n t x m = serialHeader 3 n t x m
+
+unfoldable pub blankSheet : ℕ → ℕ → ℕ → List ℕ → List ℕ
+blankSheet n t x m = blankSlots (blankHeader n t x m) n

@@ -1,11 +1,11 @@
--- The layout of a sheet rule by rule, in the words of document 01 and of document 02, request 3: the plain meaning of `fit`.
+-- The layout of a sheet rule by rule, in the words of document 01 and of document 02, requests 3 and 7: the plain meaning of `fit`.
 use Prim.Native.Nat.{ℕ, _+_, _*_, _≤_, _<_}
 use mathlib.Core.Path.{_≡_}
 use mathlib.Core.List.{List}
 use mathlib.Core.Logic.{_⊎_}
 use lib.ListN.{length}
 use Rattle.octets.specs.Bytes.{zeros, part}
-use Rattle.layout.specs.Layout.{Edition, edition1, edition2, slots, keyClass, editionByte, lastWrite, markNumber, markLength, mark, field}
+use Rattle.layout.specs.Layout.{Edition, edition1, edition2, edition3, slots, keyClass, editionByte, lastWrite, markNumber, markLength, mark, field}
 
 -- t: 4, 6 or 8
 pub data Words : ℕ → Type 0 where
@@ -46,7 +46,13 @@ pub record Edition2 (s : List ℕ) : Type 0 where
   pub edition : editionByte s ≡ 2
   pub six-zeros : part s 10 6 ≡ zeros 6
 
--- a sheet meets the layout of one edition or of the other
+-- what edition 3 adds: the serial and the key mark have no rule
+pub record Edition3 (s : List ℕ) : Type 0 where
+  pub words : Words (keyClass s)
+  pub edition : editionByte s ≡ 3
+
+-- a sheet meets the layout of one of the three editions
 pub data MeetsLayout (s : List ℕ) : Type 0 where
   one : Rules edition1 s → Edition1 s → MeetsLayout s
   two : Rules edition2 s → Edition2 s → MeetsLayout s
+  three : Rules edition3 s → Edition3 s → MeetsLayout s

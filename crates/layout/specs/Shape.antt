@@ -1,11 +1,16 @@
 -- What the code keeps of a sheet's header while it works: the contracts of inner functions speak of it.
 use Prim.Native.Nat.{ℕ, _≤_, _<_}
 use mathlib.Core.Path.{_≡_}
-use mathlib.Core.Bool.{true}
+use mathlib.Core.Bool.{Bool, true, _||_}
 use mathlib.Core.List.{List}
+use lib.Dec.{eqb}
 use lib.ListN.{length}
 use Rattle.layout.specs.Layout.{editionOf, slots, keyClass, sheetSize, fit}
 use Rattle.layout.specs.declared.Shape.{Shape}
+
+-- editions 2 and 3 have a header of 16 bytes, with a serial
+unfoldable pub hasSerial : ℕ → Bool
+hasSerial v = eqb v 2 || eqb v 3
 
 unfoldable pub shapeOf : List ℕ → Shape
 shapeOf s =

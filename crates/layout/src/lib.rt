@@ -6,7 +6,7 @@ ghost use lib.Dec.{eqb};
 ghost use lib.ListN.{length};
 ghost use Rattle.octets.specs.Bytes.{zeros, allBelow};
 ghost use Rattle.layout.specs.Layout.{editionOf, newEdition, slots, lastWrite, slotCount, sheetSize, markAt, fieldAt, blankSlot, fitSlot, fit, storeSlot, storeLast, blankSheet};
-ghost use Rattle.layout.specs.Shape.{shapeOf, SlotIn, SheetOf};
+ghost use Rattle.layout.specs.Shape.{hasSerial, shapeOf, SlotIn, SheetOf};
 ghost use Rattle.layout.specs.Marks.{blankAfter, writtenAfter};
 
 pub struct Shape {
@@ -19,7 +19,7 @@ pub struct Shape {
 // The size of the header of edition 1.
 const HEADER_1: usize = 8;
 
-// The size of the header of edition 2.
+// The size of the header from edition 2 on.
 const HEADER_2: usize = 16;
 
 pub fn slot_count(n: usize) -> bool
@@ -38,12 +38,22 @@ pub fn last_write(s: &[u8]) -> usize
     octets::number4(s, 4)
 }
 
+// Whether an edition's header has a serial.
+fn has_serial(v: usize) -> bool
+    ensures { λ r. ⌜ r ≡ hasSerial v ⌝ }
+{
+    if v == 2 {
+        return true;
+    }
+    v == 3
+}
+
 // The size of the header of the sheet's edition.
 fn header_size(s: &[u8]) -> usize
     requires { ⌜ 8 ≤ length (now s) ⌝ }
     ensures { λ r. ⌜ r ≡ editionOf (now (s .entry)) .header ⌝ }
 {
-    if octets::byte(s, 3) == 2 {
+    if has_serial(octets::byte(s, 3)) {
         return HEADER_2;
     }
     HEADER_1
@@ -54,7 +64,7 @@ fn start_tail(s: &[u8]) -> usize
     requires { ⌜ editionOf (now s) .header ≤ length (now s) ⌝ }
     ensures { λ r. ⌜ r ≡ editionOf (now (s .entry)) .tail (now (s .entry)) ⌝ }
 {
-    if octets::byte(s, 3) == 2 {
+    if has_serial(octets::byte(s, 3)) {
         return octets::number2(s, 8);
     }
     0
@@ -83,6 +93,9 @@ fn header_rule(s: &[u8]) -> bool
     let edition = octets::byte(s, 3);
     if edition == 2 {
         return octets::all_zero(&s[10..16]);
+    }
+    if edition == 3 {
+        return true;
     }
     edition == 1
 }
@@ -217,17 +230,18 @@ pub fn blank_size(n: usize) -> usize
     sheet_size(HEADER_2, n)
 }
 
-// A blank sheet of edition 2 with n slots, keys of class t and a serial.
-pub fn put_blank(sheet: &mut [u8], n: usize, t: usize, serial: u16)
+// A blank sheet of edition 3 with n slots, keys of class t, a serial and a key mark.
+pub fn put_blank(sheet: &mut [u8], n: usize, t: usize, serial: u16, mark: [u8; 6])
     requires { ⌜ length (now sheet) ≡ sheetSize (newEdition .header) n ⌝ }
     requires { ⌜ (n ≤ 256) × (t < 256) ⌝ }
-    ensures { λ _. ⌜ now (sheet .exit) ≡ blankSheet n t serial ⌝ }
+    ensures { λ _. ⌜ now (sheet .exit) ≡ blankSheet n t serial mark ⌝ }
 {
     octets::fill_zero(sheet);
+    octets::copy_part(sheet, 10, &mark);
     sheet[0] = (n / 256) as u8;
     sheet[1] = (n % 256) as u8;
     sheet[2] = t as u8;
-    sheet[3] = 2;
+    sheet[3] = 3;
     sheet[8] = (serial / 256) as u8;
     sheet[9] = (serial % 256) as u8;
 }

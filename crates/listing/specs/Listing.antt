@@ -64,7 +64,7 @@ slotLines s (suc n) = slotLines s n ++ slotLine s n
 unfoldable pub keyBits : List ℕ → ℕ
 keyBits s = 8 * keyBytes (keyClass s)
 
--- a fit sheet of at most 53264 bytes, which 256 slots of edition 2 have; every other prints "unfit"
+-- a fit sheet of at most 53264 bytes, which 256 slots of edition 2 or 3 have; every other prints "unfit"
 unfoldable pub listable : List ℕ → Bool
 listable s = leb (length s) 53264 && fit s
 

@@ -265,6 +265,13 @@ pub fn mac_two(k: cipher::Key, first: [u8; 8], m: &[u8]) -> [u8; 8]
     mac(k, &first, m)
 }
 
+// CMAC of one block.
+pub fn mac_one(k: cipher::Key, b: [u8; 8]) -> [u8; 8]
+    ensures { λ r. ⌜ r ≡ cmac (encrypted k) b ⌝ }
+{
+    mac(k, b"", &b)
+}
+
 pub enum MacAnswer {
     Accepted,
     WrongKey,

@@ -22,10 +22,10 @@ use Rattle.faults.proofs.Laws.{first-fault-law}
 use Rattle.faults.proofs.Places.{set-low, set-below, set-there, set-before}
 use Rattle.captions.specs.Answers.{Outcome, outcome, answerNumber, answerLength, answerPoint, changePoint}
 use Rattle.captions.specs.Captions.{Keys, Ciphers, loadedFor, startBlock, checkOf, openedField, opened, altered, change}
-use Rattle.captions.specs.Calls.{keyTests, otherClass, captionTests, classTests, sheetTests, windowTests, openTests, writeTests, clearTests, readTests, blankTests, writingWith, clearingWith, readingWith, writing, clearing, reading, blanking}
+use Rattle.captions.specs.Calls.{keyTests, otherClass, captionTests, classTests, sheetTests, windowTests, openTests, writeTests, clearTests, readTests, blankTests, writingWith, clearingWith, readingWith, blankingWith, writing, clearing, reading, blanking}
 use Rattle.captions.specs.Claim.{Sound}
 use Rattle.captions.specs.declared.Answer.{Answer}
-use Rattle.captions.specs.declared.Answer.the-variants.{Accepted, WrongKey, TwinKeys, WrongSpan, UnfitSheet, OtherKeyClass, NoSuchSlot, Overlong, Worn, Blank, Altered}
+use Rattle.captions.specs.declared.Answer.the-variants.{Accepted, WrongKey, TwinKeys, WrongSpan, UnfitSheet, OtherKeyClass, NoSuchSlot, Overlong, Worn, Blank, Altered, OtherKeys}
 use Rattle.captions.specs.declared.Change.{Change}
 use Rattle.captions.specs.declared.Change.the-variants.{Check, Byte}
 use Rattle.captions.proofs.Slot.{chaining, start-block}
@@ -117,6 +117,7 @@ write-points k s i c =
     walk (Points s Never) _ _ _ _ _ (λ t. plain s Never TwinKeys s refl refl refl) λ t₂.
     walk (Points s Never) _ _ _ _ _ (at-fault s Never s) λ t₄.
     walk (Points s Never) _ _ _ _ _ (λ t. plain s Never OtherKeyClass s refl refl refl) λ t₅.
+    walk (Points s Never) _ _ _ _ _ (λ t. plain s Never OtherKeys s refl refl refl) λ t₁₄.
     walk (Points s Never) _ _ _ _ _ (λ t. plain s Never NoSuchSlot s refl refl refl) λ t₆.
     walk (Points s Never) _ _ _ _ _ (λ t. plain s Never Overlong s refl refl refl) λ t₇.
     walk (Points s Never) _ _ _ _ _ (λ t. plain s Never Worn s refl refl refl) λ t₈.
@@ -129,11 +130,13 @@ clear-points s i =
     walk (Points s Never) _ _ _ _ _ (λ t. plain s Never NoSuchSlot s refl refl refl) λ t₆.
     ended (Points s Never) _ _ (plain s Never (Accepted 0) _ refl refl refl)
 
-blank-points : (s : List ℕ) (n t x : ℕ) → (blanking s n t x) .points ≡ point 0 0 0
-unfolding blanking blankTests outcome answerPoint
-blank-points s n t x =
+blank-points : (k : Keys) (s : List ℕ) (n t v : ℕ) → (blanking k s n t v) .points ≡ point 0 0 0
+unfolding blanking blankingWith blankTests outcome answerPoint
+blank-points k s n t v =
     walk (λ (o : Outcome). o .points ≡ point 0 0 0) _ _ _ _ _ (λ t. refl) λ t₁.
+    walk (λ (o : Outcome). o .points ≡ point 0 0 0) _ _ _ _ _ (λ t. refl) λ t₂.
     walk (λ (o : Outcome). o .points ≡ point 0 0 0) _ _ _ _ _ (λ t. refl) λ t₃.
+    walk (λ (o : Outcome). o .points ≡ point 0 0 0) _ _ _ _ _ (λ t. refl) λ t₅.
     ended (λ (o : Outcome). o .points ≡ point 0 0 0) _ _ refl
 
 module _ (p q : ℕ) (k : Keys) (s : List ℕ) (i : ℕ) (a : Bytes (k .sealing)) (b : Bytes (k .checking)) (y : Bytes s) where
@@ -182,6 +185,7 @@ module _ (p q : ℕ) (k : Keys) (s : List ℕ) (i : ℕ) (a : Bytes (k .sealing)
       walk (Points s A) _ _ _ _ _ (λ t. plain s A WrongSpan z refl refl refl) λ t₃.
       walk (Points s A) _ _ _ _ _ (at-fault s A z) λ t₄.
       walk (Points s A) _ _ _ _ _ (λ t. plain s A OtherKeyClass z refl refl refl) λ t₅.
+      walk (Points s A) _ _ _ _ _ (λ t. plain s A OtherKeys z refl refl refl) λ t₁₄.
       walk (Points s A) _ _ _ _ _ (λ t. plain s A NoSuchSlot z refl refl refl) λ t₆.
       walk (Points s A) _ _ _ _ _ (λ t. plain s A Blank z refl refl refl) λ t₉.
       walk (Points s A) _ _ _ _ _ (at-altered (next t₁ (next t₂ end)) t₄ t₅ t₆ t₉ z) λ t₁₀.
@@ -229,6 +233,7 @@ module _ (k : Keys) (s : List ℕ) (i : ℕ) (A : Point → Type 0)
       walk Says _ _ _ _ _ (λ t. says-terms z t₄) λ tₜ.
       walk Says _ _ _ _ _ (λ t. says-read OtherKeyClass z (plain s A OtherKeyClass z refl refl refl)) λ t₅.
       walk Says _ _ _ _ _ (λ t. says-plain NoSuchDate z refl refl refl refl) λ t₁₁.
+      walk Says _ _ _ _ _ (λ t. says-read OtherKeys z (plain s A OtherKeys z refl refl refl)) λ t₁₄.
       walk Says _ _ _ _ _ (λ t. says-read NoSuchSlot z (plain s A NoSuchSlot z refl refl refl)) λ t₆.
       walk Says _ _ _ _ _ (λ t. says-read Blank z (plain s A Blank z refl refl refl)) λ t₉.
       walk Says _ _ _ _ _ (λ t. says-plain NotOnShow z refl refl refl refl) λ t₁₂.

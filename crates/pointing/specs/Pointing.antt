@@ -72,7 +72,7 @@ pub record Pointing : Type 0 where
   pub write : (k : Keys) (s : List ℕ) (i : ℕ) (c : List ℕ) → Points s Never (writing k s i c)
   -- a clear shares the case of an unfit sheet; blanking points at nothing
   pub clear : (s : List ℕ) (i : ℕ) → Points s Never (clearing s i)
-  pub blank : (s : List ℕ) (n t x : ℕ) → (blanking s n t x) .points ≡ point 0 0 0
+  pub blank : (k : Keys) (s : List ℕ) (n t v : ℕ) → (blanking k s n t v) .points ≡ point 0 0 0
   -- the check and what is opened are mCrypton's, by any path numbers
   pub ciphers : ClassesByMcrypton
   pub read : (p q : ℕ) (k : Keys) (s : List ℕ) (i : ℕ) (window : List ℕ) → Bytes (k .sealing) → Bytes (k .checking) → Bytes s

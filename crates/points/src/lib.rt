@@ -94,6 +94,7 @@ pub fn answer_pointed(a: Answer) -> Pointed
         Answer::Worn => at(8, 0, 0, 0),
         Answer::Blank => at(9, 0, 0, 0),
         Answer::Altered(slot, c) => change_pointed(slot, c),
+        Answer::OtherKeys => at(14, 0, 0, 0),
     }
 }
 

@@ -18,31 +18,32 @@ use Rattle.layout.specs.declared.Shape.{Shape}
 use Rattle.layout.proofs.Header.{count-high}
 use Rattle.layout.proofs.Fits.{slot-header, slot-placed}
 use Rattle.captions.specs.Answers.{Outcome, outcome, firstOf}
-use Rattle.captions.specs.Captions.{Keys, Ciphers, loadedFor, written, cleared, opened}
-use Rattle.captions.specs.Calls.{blankRow, alteredRow, keyTests, captionTests, openTests, writeTests, clearTests, readTests, blankTests, writingWith, clearingWith, readingWith, writing, clearing, reading, blanking}
+use Rattle.captions.specs.Captions.{Keys, Ciphers, loadedFor, keyMark, written, cleared, opened}
+use Rattle.captions.specs.Calls.{wrongKeys, blankRow, alteredRow, keyTests, captionTests, openTests, writeTests, clearTests, readTests, blankTests, writingWith, clearingWith, readingWith, blankingWith, writing, clearing, reading, blanking}
 use Rattle.captions.specs.declared.Answer.{Answer}
 use Rattle.captions.specs.declared.Answer.the-variants.{Accepted}
 use Rattle.captions.specs.declared.Verdict.{Verdict}
 use Rattle.captions.specs.declared.Verdict.the-variants.{Pass, Refuse}
 use Rattle.captions.proofs.Tables.{Unmet, unmet-left, unmet-right, unmet-first, unmet-rest}
+use Rattle.captions.proofs.ReadBack.{or-false-right}
 use Rattle.verdicts.specs.Rows.{sheetRows, writeRows, windowRows, openRows, clearRows}
 use Rattle.verdicts.proofs.Verdicts.{refused, accepted, passed, rows-slot, window-whole, window-slot}
 use Rattle.slots.specs.Inner.{slotShown, Written}
 
 -- ---- blanking
 
-module _ (s : List ℕ) (n t : ℕ) (v : Verdict) (e : v ≡ firstOf (blankTests s n t)) where
-  pub blank-refused : (x : ℕ) (a : Answer) → v ≡ Refuse a → outcome a s ≡ blanking s n t x
-  unfolding blanking
-  blank-refused x a h = refused (blankTests s n t) _ (λ a. outcome a s) v a e h
+module _ (k : Keys) (s : List ℕ) (n t : ℕ) (v : Verdict) (e : v ≡ firstOf (blankTests k s n t)) where
+  pub blank-refused : (x : ℕ) (a : Answer) → v ≡ Refuse a → outcome a s ≡ blanking k s n t x
+  unfolding blanking blankingWith
+  blank-refused x a h = refused (blankTests k s n t) _ (λ a. outcome a s) v a e h
 
   module _ (h : v ≡ Pass) where
-    unmet : Unmet (blankTests s n t)
-    unmet = passed (blankTests s n t) v e h
+    unmet : Unmet (blankTests k s n t)
+    unmet = passed (blankTests k s n t) v e h
 
     spans : slotCount n && eqb (length s) (sheetSize (newEdition .header) n) ≡ true
     unfolding blankTests
-    spans = not-false _ (unmet-first (unmet-rest unmet))
+    spans = not-false _ (unmet-first (unmet-rest (unmet-rest unmet)))
 
     pub blank-size : length s ≡ sheetSize (newEdition .header) n
     blank-size = eqb-true _ _ (and-right (slotCount n) _ spans)
@@ -52,11 +53,13 @@ module _ (s : List ℕ) (n t : ℕ) (v : Verdict) (e : v ≡ firstOf (blankTests
 
     pub blank-class : t < 256
     unfolding blankTests
-    blank-class = class-small t (not-false _ (unmet-first unmet))
+    blank-class = class-small t (not-false _ (or-false-right (wrongKeys k) _ (unmet-first unmet)))
 
-    pub blank-made : (x : ℕ) (s′ : List ℕ) → s′ ≡ blankSheet n t x → outcome (Accepted 0) s′ ≡ blanking s n t x
-    unfolding blanking
-    blank-made x s′ g = ap (outcome (Accepted 0)) g ∙ accepted (blankTests s n t) _ (λ a. outcome a s) v e h
+    -- m is the key mark that was made
+    pub blank-made : (x : ℕ) (m s′ : List ℕ) → m ≡ keyMark (loadedFor t k) n t x → s′ ≡ blankSheet n t x m → outcome (Accepted 0) s′ ≡ blanking k s n t x
+    unfolding blanking blankingWith
+    blank-made x m s′ f g =
+        ap (outcome (Accepted 0)) (g ∙ ap (blankSheet n t x) f) ∙ accepted (blankTests k s n t) _ (λ a. outcome a s) v e h
 
 -- ---- clearing
 

@@ -6,15 +6,23 @@ ghost use Rattle.captions.specs.Answers.{outcome};
 ghost use Rattle.captions.specs.Captions.{pair};
 ghost use Rattle.captions.specs.Calls.{writing, clearing, reading, blanking};
 
-// Stores a blank sheet of n slots: n, t, the edition, w = 0, the serial and zeros.
-pub fn blank(sheet: &mut [u8], n: usize, t: usize, serial: u16) -> Answer
-    ensures { λ r. ⌜ outcome r (now (sheet .exit)) ≡ blanking (now (sheet .entry)) n t serial ⌝ }
+// Stores a blank sheet of n slots for a pair of keys: n, t, the edition, w = 0, the serial, the key mark and zeros.
+pub fn blank(
+    sheet: &mut [u8],
+    n: usize,
+    t: usize,
+    serial: u16,
+    sealing: &[u8],
+    checking: &[u8],
+) -> Answer
+    ensures { λ r. ⌜ outcome r (now (sheet .exit)) ≡ blanking (pair (now (sealing .entry)) (now (checking .entry))) (now (sheet .entry)) n t serial ⌝ }
 {
-    let blanking = verdicts::blank_verdict(sheet, n, t);
+    let blanking = verdicts::blank_verdict(sealing, checking, sheet, n, t);
     if let Verdict::Refuse(a) = blanking {
         return a;
     }
-    layout::put_blank(sheet, n, t, serial);
+    let mark = key_mark::key_mark(sealing, checking, n, t, serial as usize);
+    layout::put_blank(sheet, n, t, serial, mark);
     Answer::Accepted(0)
 }
 

@@ -3,27 +3,13 @@ use captions::Answer;
 ghost use Prim.Native.Nat.{_≤_, _<_};
 ghost use lib.ListN.{length};
 
-fn numbers(number: usize, length: usize) {
-    show::number(number);
-    show::text(b" ");
-    show::number(length);
-    show::text(b" ");
-}
-
+// The number and the length of an answer.
 fn answer(a: Answer) {
-    match a {
-        Answer::Accepted(n) => numbers(0, n as usize),
-        Answer::WrongKey => numbers(1, 0),
-        Answer::TwinKeys => numbers(2, 0),
-        Answer::WrongSpan => numbers(3, 0),
-        Answer::UnfitSheet(_) => numbers(4, 0),
-        Answer::OtherKeyClass => numbers(5, 0),
-        Answer::NoSuchSlot => numbers(6, 0),
-        Answer::Overlong => numbers(7, 0),
-        Answer::Worn => numbers(8, 0),
-        Answer::Blank => numbers(9, 0),
-        Answer::Altered(_, _) => numbers(10, 0),
-    }
+    let p = points::answer_pointed(a);
+    show::number(p.number as usize);
+    show::text(b" ");
+    show::number(p.length as usize);
+    show::text(b" ");
 }
 
 // The line of a call: its name, its answer, and the CMAC of the whole sheet under the checking key.
@@ -77,11 +63,11 @@ fn write_overlong(sealing: &[u8], checking: &[u8], sheet: &mut [u8]) {
 }
 
 // The serial is 23040 + t.
-fn blank(checking: &[u8], sheet: &mut [u8])
+fn blank(sealing: &[u8], checking: &[u8], sheet: &mut [u8])
     requires { ⌜ length (now checking) ≤ 16 ⌝ }
 {
     let t = checking.len() / 2;
-    let a = sheet::blank(sheet, 3, t, (23040 + t) as u16);
+    let a = sheet::blank(sheet, 3, t, (23040 + t) as u16, sealing, checking);
     line(b"blank ", a, checking, sheet);
 }
 
@@ -148,12 +134,26 @@ fn lines(sealing: &[u8], near: &[u8], checking: &[u8], sheet: &mut [u8]) {
     list(sheet);
 }
 
-// A sheet of edition 2, made by blanking.
+// A sheet of edition 3, made by blanking.
 fn new_sheet(sealing: &[u8], near: &[u8], checking: &[u8])
     requires { ⌜ length (now checking) ≤ 16 ⌝ }
 {
     let mut sheet = [0u8; 640];
-    blank(checking, &mut sheet);
+    blank(sealing, checking, &mut sheet);
+    lines(sealing, near, checking, &mut sheet);
+}
+
+// A sheet of edition 2, which is laid out here, with the serial 23040 + t.
+fn serial_sheet(sealing: &[u8], near: &[u8], checking: &[u8])
+    requires { ⌜ length (now checking) ≤ 16 ⌝ }
+{
+    let mut sheet = [0u8; 640];
+    sheet[1] = 3;
+    sheet[2] = (checking.len() / 2) as u8;
+    sheet[3] = 2;
+    sheet[8] = 90;
+    sheet[9] = (checking.len() / 2) as u8;
+    line(b"old ", Answer::Accepted(0), checking, &sheet);
     lines(sealing, near, checking, &mut sheet);
 }
 
@@ -179,6 +179,7 @@ fn lines_of(sealing: &mut [u8], near: &mut [u8], checking: &mut [u8])
     near[0] = near[0] ^ 1;
     show::pattern(checking, 29, 71 * (t + 1) + 13);
     new_sheet(sealing, near, checking);
+    serial_sheet(sealing, near, checking);
     old_sheet(sealing, near, checking);
 }
 

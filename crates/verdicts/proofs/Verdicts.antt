@@ -1,6 +1,6 @@
 -- What a verdict says of a table of tests, and the verdict of each table, one law for each way out.
 use mathlib.Core.Path.{_≡_, refl, sym, ap, _∙_, subst}
-use mathlib.Core.Bool.{Bool, true, false, _&&_}
+use mathlib.Core.Bool.{Bool, true, false, not, _&&_, _||_}
 use mathlib.Core.List.{List, [], _∷_, _++_}
 use Prim.Native.Nat.{ℕ, _+_, _≤_, _<_}
 use native.Mathlib.Omega.{arith}
@@ -11,6 +11,7 @@ use Rattle.octets.specs.Bytes.{same}
 use Rattle.octets.specs.Outcome.{Row, _gives_, decided}
 use Rattle.octets.proofs.Outcome.{decided-first, decided-rest, decided-none, decided-append}
 use Rattle.cipher.specs.Key.{classKnown, keyBytes, sheetKeyLength}
+use Rattle.cipher.proofs.Promise.{class-small}
 use Rattle.layout.specs.Layout.{newEdition, editionOf, slots, keyClass, lastWrite, sheetSize, slotCount, blankSlot, fit}
 use Rattle.layout.specs.Shape.{shapeOf, FitSlot}
 use Rattle.layout.specs.declared.Shape.{Shape}
@@ -19,14 +20,14 @@ use Rattle.layout.proofs.Fits.{fit-facts, fits-header, fits-class-small, slot-l
 use Rattle.faults.specs.Faults.{firstFault}
 use Rattle.faults.specs.declared.Fault.{Fault}
 use Rattle.captions.specs.Answers.{firstOf}
-use Rattle.captions.specs.Captions.{Keys, pair, loadedFor}
-use Rattle.captions.specs.Calls.{wrongKeys, otherClass, spanRow, unfitRow, classRow, slotRow, blankRow, keyTests, captionTests, classTests, sheetTests, windowTests, openTests, writeTests, clearTests, blankTests}
+use Rattle.captions.specs.Captions.{Keys, pair, loadedFor, otherKeys}
+use Rattle.captions.specs.Calls.{wrongKeys, otherClass, spanRow, unfitRow, classRow, markRow, slotRow, blankRow, keyTests, captionTests, classTests, sheetTests, windowTests, openTests, writeTests, clearTests, blankTests}
 use Rattle.captions.specs.declared.Answer.{Answer}
-use Rattle.captions.specs.declared.Answer.the-variants.{WrongKey, TwinKeys, WrongSpan, UnfitSheet, OtherKeyClass, NoSuchSlot, Overlong, Worn, Blank}
+use Rattle.captions.specs.declared.Answer.the-variants.{WrongKey, TwinKeys, WrongSpan, UnfitSheet, OtherKeyClass, NoSuchSlot, Overlong, Worn, Blank, OtherKeys}
 use Rattle.captions.specs.declared.Verdict.{Verdict}
 use Rattle.captions.specs.declared.Verdict.the-variants.{Pass, Refuse}
 use Rattle.captions.proofs.Tables.{Unmet, unmet-first, unmet-rest, unmet-right, answers-all, decided-accepted, decided-map}
-use Rattle.verdicts.specs.Rows.{sheetRows, writeRows, windowRows, openRows, clearRows}
+use Rattle.verdicts.specs.Rows.{sizeRow, sheetRows, writeRows, windowRows, openRows, clearRows}
 
 -- ---- tables in general
 
@@ -114,7 +115,7 @@ module _ (k : Keys) (r : Bool) (e : r ≡ wrongKeys k) where
     unfolding keyTests
     keys-pass g = unmet _ _ _ _ (sym e ∙ h) (unmet _ _ _ _ (sym f ∙ g) none)
 
--- ---- tests 4, 5 and 6, each by itself
+-- ---- tests 4, 5, 14 and 6, each by itself
 
 module _ (s : List ℕ) (r : Bool) (e : r ≡ fit s) where
   pub fit-no : r ≡ false → (f : Fault) → f ≡ firstFault s → Refuse (UnfitSheet f) ≡ firstOf (unfitRow (editionOf s) s ∷ [])
@@ -129,6 +130,22 @@ pub fit-passed : (s : List ℕ) (v : Verdict) → v ≡ firstOf (unfitRow (editi
 unfolding fit
 fit-passed s v e h = not-false _ (unmet-first (passed _ v e h))
 
+-- n is what was found of the class
+module _ (k : List ℕ) (t n : ℕ) (f : n ≡ keyBytes t) where
+  pub size-no : (length k ≡ n → ⊥) → Refuse OtherKeyClass ≡ firstOf (sizeRow k t ∷ [])
+  size-no l = met _ _ _ (rw (← f, ne-eqb (length k) n l))
+
+  pub size-yes : length k ≡ n → Pass ≡ firstOf (sizeRow k t ∷ [])
+  size-yes l = unmet _ _ _ _ (rw (← f, eq-eqb (length k) n l)) none
+
+-- r is what was found of the mark
+module _ (k : Keys) (s : List ℕ) (r : Bool) (e : r ≡ otherKeys (loadedFor (keyClass s) k) (editionOf s) s) where
+  pub mark-no : r ≡ true → Refuse OtherKeys ≡ firstOf (markRow (loadedFor (keyClass s) k) (editionOf s) s ∷ [])
+  mark-no h = met _ _ _ (sym e ∙ h)
+
+  pub mark-yes : r ≡ false → Pass ≡ firstOf (markRow (loadedFor (keyClass s) k) (editionOf s) s ∷ [])
+  mark-yes h = unmet _ _ _ _ (sym e ∙ h) none
+
 module _ (s : List ℕ) (t : fit s ≡ true) where
   pub fit-header : editionOf s .header ≤ length s
   fit-header = fits-header s (fit-facts s t)
@@ -140,17 +157,9 @@ module _ (s : List ℕ) (t : fit s ≡ true) where
     slots-are : h .slots ≡ slots s
     slots-are = ap (λ (x : Shape). x .slots) g ∙ (unfold shapeOf in refl)
 
-    module _ (k : Keys) (n : ℕ) (f : n ≡ keyBytes (h .class)) where
-      class-is : keyBytes (keyClass s) ≡ n
-      class-is = sym (f ∙ ap (λ (x : Shape). keyBytes (x .class)) g ∙ (unfold shapeOf in refl))
-
-      pub class-no : (length (k .sealing) ≡ n → ⊥) → Refuse OtherKeyClass ≡ firstOf (classRow k s ∷ [])
-      unfolding otherClass
-      class-no l = met _ _ _ (rw (class-is, ne-eqb (length (k .sealing)) n l))
-
-      pub class-yes : length (k .sealing) ≡ n → Pass ≡ firstOf (classRow k s ∷ [])
-      unfolding otherClass
-      class-yes l = unmet _ _ _ _ (rw (class-is, eq-eqb (length (k .sealing)) n l)) none
+    pub class-found : (k : Keys) (v : Verdict) → v ≡ firstOf (sizeRow (k .sealing) (h .class) ∷ []) → v ≡ firstOf (classRow k s ∷ [])
+    unfolding otherClass
+    class-found k v f = f ∙ ap (λ (x : Shape). firstOf (sizeRow (k .sealing) (x .class) ∷ [])) g ∙ (unfold shapeOf in refl)
 
     pub slot-no : (i : ℕ) → h .slots ≤ i → Refuse NoSuchSlot ≡ firstOf (slotRow s i ∷ [])
     slot-no i b = met _ _ _ (rw (← slots-are, le-leb (h .slots) i b))
@@ -158,7 +167,7 @@ module _ (s : List ℕ) (t : fit s ≡ true) where
     pub slot-yes : (i : ℕ) → i < h .slots → Pass ≡ firstOf (slotRow s i ∷ [])
     slot-yes i b = unmet _ _ _ _ (rw (← slots-are, lt-leb (h .slots) i b)) none
 
--- ---- 4, 5 and 6 in a row
+-- ---- 4, 5, 14 and 6 in a row
 
 module _ (s : List ℕ) (i : ℕ) (v : Verdict) (e : v ≡ firstOf (unfitRow (editionOf s) s ∷ [])) where
   pub clear-unfit : (a : Answer) → v ≡ Refuse a → Refuse a ≡ firstOf (clearRows s i)
@@ -170,21 +179,29 @@ module _ (s : List ℕ) (i : ℕ) (v : Verdict) (e : v ≡ firstOf (unfitRow (ed
   clear-slot h w g = append-passed _ (slotRow s i ∷ []) v e w h g
 
   module _ (k : Keys) where
+    after-class : List (Row Answer)
+    after-class = markRow (loadedFor (keyClass s) k) (editionOf s) s ∷ slotRow s i ∷ []
+
     after-fit : List (Row Answer)
-    after-fit = classRow k s ∷ slotRow s i ∷ []
+    after-fit = classRow k s ∷ after-class
 
     pub sheet-unfit : (a : Answer) → v ≡ Refuse a → Refuse a ≡ firstOf (sheetRows k s i)
-    unfolding sheetTests classTests after-fit
+    unfolding sheetTests classTests after-fit after-class
     sheet-unfit a h = append-refused _ after-fit v e a h
 
     module _ (p : v ≡ Pass) (w : Verdict) (f : w ≡ firstOf (classRow k s ∷ [])) where
       pub sheet-class : (a : Answer) → w ≡ Refuse a → Refuse a ≡ firstOf (sheetRows k s i)
-      unfolding sheetTests classTests after-fit
-      sheet-class a h = append-passed _ after-fit v e _ p (append-refused _ (slotRow s i ∷ []) w f a h)
+      unfolding sheetTests classTests after-fit after-class
+      sheet-class a h = append-passed _ after-fit v e _ p (append-refused _ after-class w f a h)
 
-      pub sheet-slot : w ≡ Pass → (u : Verdict) → u ≡ firstOf (slotRow s i ∷ []) → u ≡ firstOf (sheetRows k s i)
-      unfolding sheetTests classTests after-fit
-      sheet-slot h u g = append-passed _ after-fit v e u p (append-passed _ (slotRow s i ∷ []) w f u h g)
+      module _ (q : w ≡ Pass) (m : Verdict) (g : m ≡ firstOf (markRow (loadedFor (keyClass s) k) (editionOf s) s ∷ [])) where
+        pub sheet-mark : (a : Answer) → m ≡ Refuse a → Refuse a ≡ firstOf (sheetRows k s i)
+        unfolding sheetTests classTests after-fit after-class
+        sheet-mark a h = append-passed _ after-fit v e _ p (append-passed _ after-class w f _ q (append-refused _ (slotRow s i ∷ []) m g a h))
+
+        pub sheet-slot : m ≡ Pass → (u : Verdict) → u ≡ firstOf (slotRow s i ∷ []) → u ≡ firstOf (sheetRows k s i)
+        unfolding sheetTests classTests after-fit after-class
+        sheet-slot h u d = append-passed _ after-fit v e u p (append-passed _ after-class w f u q (append-passed _ (slotRow s i ∷ []) m g u h d))
 
 -- ---- tests 7 and 8
 
@@ -202,7 +219,7 @@ module _ (s c : List ℕ) where
     unfolding captionTests
     caption-pass q = unmet _ _ _ _ (le-ltb 192 (length c) l) (unmet _ _ _ _ (rw (← e, ne-eqb w 4294967295 q)) none)
 
--- ---- blanking: tests 1 and 3
+-- ---- blanking: tests 1, 2, 3 and 5
 
 module _ (s : List ℕ) (n : ℕ) (r : Bool) (e : r ≡ slotCount n) where
   pub span-count : r ≡ false → false ≡ slotCount n && eqb (length s) (sheetSize (newEdition .header) n)
@@ -214,19 +231,48 @@ module _ (s : List ℕ) (n : ℕ) (r : Bool) (e : r ≡ slotCount n) where
 pub count-at-most : (n : ℕ) (r : Bool) → r ≡ slotCount n → r ≡ true → n ≤ 256
 count-at-most n r e h = count-high n (sym e ∙ h)
 
-module _ (s : List ℕ) (n t : ℕ) (k : Bool) (e : k ≡ classKnown t) where
-  pub blank-class : k ≡ false → Refuse WrongKey ≡ firstOf (blankTests s n t)
+or-true : (b : Bool) → b || true ≡ true
+or-true true = refl
+or-true false = refl
+
+or-false : (b : Bool) → b || false ≡ b
+or-false true = refl
+or-false false = refl
+
+-- r is what was found of t
+module _ (k : Keys) (s : List ℕ) (n t : ℕ) (r : Bool) (e : r ≡ classKnown t) where
+  pub blank-class : r ≡ false → Refuse WrongKey ≡ firstOf (blankTests k s n t)
   unfolding blankTests
-  blank-class h = met _ _ _ (rw (← e, h))
+  blank-class h = met _ _ _ (rw (← e, h) (or-true (wrongKeys k)))
 
-  module _ (h : k ≡ true) (r : Bool) (f : r ≡ slotCount n && eqb (length s) (sheetSize (newEdition .header) n)) where
-    pub blank-span : r ≡ false → Refuse WrongSpan ≡ firstOf (blankTests s n t)
-    unfolding blankTests
-    blank-span g = unmet _ _ _ _ (rw (← e, h)) (met _ _ _ (rw (← f, g)))
+  module _ (h : r ≡ true) where
+    pub blank-small : t < 256
+    blank-small = class-small t (sym e ∙ h)
 
-    pub blank-pass : r ≡ true → Pass ≡ firstOf (blankTests s n t)
-    unfolding blankTests
-    blank-pass g = unmet _ _ _ _ (rw (← e, h)) (unmet _ _ _ _ (rw (← f, g)) none)
+    span-row : Row Answer
+    span-row = not (slotCount n && eqb (length s) (sheetSize (newEdition .header) n)) gives WrongSpan
+
+    after-keys : List (Row Answer)
+    after-keys = span-row ∷ sizeRow (k .sealing) t ∷ []
+
+    -- with a right t, 1 and 2 are those of the keys
+    keys-first : blankTests k s n t ≡ keyTests k ++ after-keys
+    unfolding blankTests keyTests after-keys span-row
+    keys-first = rw (← e, h, or-false (wrongKeys k))
+
+    module _ (v : Verdict) (f : v ≡ firstOf (keyTests k)) where
+      pub blank-keys : (a : Answer) → v ≡ Refuse a → Refuse a ≡ firstOf (blankTests k s n t)
+      blank-keys a g = rw keys-first (append-refused _ after-keys v f a g)
+
+      -- q is what was found of n and the length
+      module _ (p : v ≡ Pass) (q : Bool) (d : q ≡ slotCount n && eqb (length s) (sheetSize (newEdition .header) n)) where
+        pub blank-span : q ≡ false → Refuse WrongSpan ≡ firstOf (blankTests k s n t)
+        unfolding after-keys span-row
+        blank-span g = rw keys-first (append-passed _ after-keys v f _ p (met _ _ _ (rw (← d, g))))
+
+        pub blank-size : q ≡ true → (w : Verdict) → w ≡ firstOf (sizeRow (k .sealing) t ∷ []) → w ≡ firstOf (blankTests k s n t)
+        unfolding after-keys span-row
+        blank-size g w l = rw keys-first (append-passed _ after-keys v f w p (unmet _ _ _ w (rw (← d, g)) l))
 
 -- ---- test 9: r is what was found of the slot
 

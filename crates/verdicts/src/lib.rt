@@ -4,15 +4,15 @@ use captions::Verdict;
 ghost use mathlib.Core.Path.{_≡_};
 ghost use mathlib.Core.Bool.{true, _&&_};
 ghost use mathlib.Core.List.{[], _∷_};
-ghost use Prim.Native.Nat.{_≤_};
+ghost use Prim.Native.Nat.{_≤_, _<_};
 ghost use lib.Dec.{eqb};
 ghost use lib.ListN.{length};
-ghost use Rattle.layout.specs.Layout.{newEdition, editionOf, sheetSize, slotCount, fit};
+ghost use Rattle.layout.specs.Layout.{newEdition, editionOf, keyClass, sheetSize, slotCount, fit};
 ghost use Rattle.layout.specs.Shape.{FitSlot};
 ghost use Rattle.captions.specs.Answers.{firstOf};
-ghost use Rattle.captions.specs.Captions.{pair};
-ghost use Rattle.captions.specs.Calls.{wrongKeys, keyTests, unfitRow, classRow, slotRow, captionTests, blankRow, blankTests};
-ghost use Rattle.verdicts.specs.Rows.{sheetRows, writeRows, windowRows, openRows, clearRows};
+ghost use Rattle.captions.specs.Captions.{pair, loadedFor};
+ghost use Rattle.captions.specs.Calls.{wrongKeys, keyTests, unfitRow, classRow, markRow, slotRow, captionTests, blankRow, blankTests};
+ghost use Rattle.verdicts.specs.Rows.{sizeRow, sheetRows, writeRows, windowRows, openRows, clearRows};
 
 // Whether a key has a wrong length, or the two lengths differ.
 fn wrong_keys(sealing: &[u8], checking: &[u8]) -> bool
@@ -54,16 +54,35 @@ pub fn fit_verdict(sheet: &[u8]) -> Verdict
     Verdict::Refuse(Answer::UnfitSheet(f))
 }
 
-// Test 5 on a sheet that meets the layout; of the keys only the length of the sealing key is looked at.
+// Test 5: key bytes are those of class t. Of the keys only the length of the sealing key is looked at.
+fn size_verdict(sealing: &[u8], t: usize) -> Verdict
+    requires { ⌜ t < 256 ⌝ }
+    ensures { λ r. ⌜ r ≡ firstOf (sizeRow (now (sealing .entry)) t ∷ []) ⌝ }
+{
+    if sealing.len() == cipher::key_bytes(t) {
+        return Verdict::Pass;
+    }
+    Verdict::Refuse(Answer::OtherKeyClass)
+}
+
+// Test 5 on a sheet that meets the layout.
 pub fn class_verdict(sealing: &[u8], checking: &[u8], sheet: &[u8]) -> Verdict
     requires { ⌜ fit (now sheet) ≡ true ⌝ }
     ensures { λ r. ⌜ r ≡ firstOf (classRow (pair (now (sealing .entry)) (now (checking .entry))) (now (sheet .entry)) ∷ []) ⌝ }
 {
     let h = layout::sheet_shape(sheet);
-    if sealing.len() == cipher::key_bytes(h.class) {
-        return Verdict::Pass;
+    size_verdict(sealing, h.class)
+}
+
+// Test 14 on a sheet that meets the layout.
+pub fn mark_verdict(sealing: &[u8], checking: &[u8], sheet: &[u8]) -> Verdict
+    requires { ⌜ fit (now sheet) ≡ true ⌝ }
+    ensures { λ r. ⌜ r ≡ firstOf (markRow (loadedFor (keyClass (now (sheet .entry))) (pair (now (sealing .entry)) (now (checking .entry)))) (editionOf (now (sheet .entry))) (now (sheet .entry)) ∷ []) ⌝ }
+{
+    if key_mark::other_keys(sealing, checking, sheet) {
+        return Verdict::Refuse(Answer::OtherKeys);
     }
-    Verdict::Refuse(Answer::OtherKeyClass)
+    Verdict::Pass
 }
 
 // Test 6 on a sheet that meets the layout.
@@ -78,7 +97,7 @@ pub fn slot_verdict(sheet: &[u8], slot: usize) -> Verdict
     Verdict::Pass
 }
 
-// Tests 4, 5 and 6.
+// Tests 4, 5, 14 and 6.
 pub fn sheet_verdict(sealing: &[u8], checking: &[u8], sheet: &[u8], slot: usize) -> Verdict
     ensures { λ r. ⌜ r ≡ firstOf (sheetRows (pair (now (sealing .entry)) (now (checking .entry))) (now (sheet .entry)) slot) ⌝ }
 {
@@ -88,6 +107,10 @@ pub fn sheet_verdict(sealing: &[u8], checking: &[u8], sheet: &[u8], slot: usize)
     }
     let class = class_verdict(sealing, checking, sheet);
     if let Verdict::Refuse(a) = class {
+        return Verdict::Refuse(a);
+    }
+    let mark = mark_verdict(sealing, checking, sheet);
+    if let Verdict::Refuse(a) = mark {
         return Verdict::Refuse(a);
     }
     slot_verdict(sheet, slot)
@@ -118,7 +141,7 @@ pub fn written_verdict(sheet: &[u8], slot: usize) -> Verdict
     Verdict::Pass
 }
 
-// Tests 1, 2, 4 to 8.
+// Tests 1, 2, 4, 5, 14, 6, 7 and 8.
 pub fn write_verdict(
     sealing: &[u8],
     checking: &[u8],
@@ -139,7 +162,7 @@ pub fn write_verdict(
     caption_verdict(sheet, caption)
 }
 
-// Tests 1 to 6, for a window of n bytes.
+// Tests 1 to 5, 14 and 6, for a window of n bytes.
 fn window_verdict(sealing: &[u8], checking: &[u8], sheet: &[u8], slot: usize, n: usize) -> Verdict
     ensures { λ r. ⌜ r ≡ firstOf (windowRows (pair (now (sealing .entry)) (now (checking .entry))) (now (sheet .entry)) slot n) ⌝ }
 {
@@ -153,7 +176,7 @@ fn window_verdict(sealing: &[u8], checking: &[u8], sheet: &[u8], slot: usize, n:
     sheet_verdict(sealing, checking, sheet, slot)
 }
 
-// Tests 1 to 6 and 9, for a window of n bytes.
+// Tests 1 to 5, 14, 6 and 9, for a window of n bytes.
 pub fn read_verdict(sealing: &[u8], checking: &[u8], sheet: &[u8], slot: usize, n: usize) -> Verdict
     ensures { λ r. ⌜ r ≡ firstOf (openRows (pair (now (sealing .entry)) (now (checking .entry))) (now (sheet .entry)) slot n) ⌝ }
 {
@@ -185,15 +208,19 @@ fn blank_span(sheet: &[u8], n: usize) -> bool
     false
 }
 
-// Tests 1 and 3 of blanking.
-pub fn blank_verdict(sheet: &[u8], n: usize, t: usize) -> Verdict
-    ensures { λ r. ⌜ r ≡ firstOf (blankTests (now (sheet .entry)) n t) ⌝ }
+// Tests 1, 2, 3 and 5 of blanking; t is tested before the keys, and both give 1.
+pub fn blank_verdict(sealing: &[u8], checking: &[u8], sheet: &[u8], n: usize, t: usize) -> Verdict
+    ensures { λ r. ⌜ r ≡ firstOf (blankTests (pair (now (sealing .entry)) (now (checking .entry))) (now (sheet .entry)) n t) ⌝ }
 {
     if !cipher::class_known(t) {
         return Verdict::Refuse(Answer::WrongKey);
     }
+    let keys = keys_verdict(sealing, checking);
+    if let Verdict::Refuse(a) = keys {
+        return Verdict::Refuse(a);
+    }
     if !blank_span(sheet, n) {
         return Verdict::Refuse(Answer::WrongSpan);
     }
-    Verdict::Pass
+    size_verdict(sealing, t)
 }

@@ -1,8 +1,9 @@
 //! Lists of writes and clears against the book, with reads at the end
-//! (document 01, "The book of demand 3"; document 02, request 3).
+//! (document 01, "The book of demand 3"; document 02, requests 3 and 7).
 
 use crate::edition::Edition;
 use crate::random::Random;
+use crate::strangers::stranger;
 use crate::support::*;
 use reference::Book;
 
@@ -26,19 +27,32 @@ fn random_caption(random: &mut Random) -> Vec<u8> {
     }
 }
 
-/// Runs a list of calls on a sheet and on a book that agree at first.
+/// How many calls of a list were strangers' writes, by the number they gave.
+type Strangers = [usize; 15];
+
+/// Runs a list of calls on a blank sheet with some w and on a book with that
+/// count. Where `strangers` says so, about one call in three is a stranger's
+/// write, of which the book hears nothing.
 fn run(
     random: &mut Random,
     (edition, t): (Edition, usize),
+    (n, w): (usize, u32),
     calls: usize,
-    mut sheet: Vec<u8>,
-    mut book: Book,
+    mut strangers: Option<&mut Strangers>,
 ) {
-    let n = book.n;
-    let keys = pair(random, edition, t);
+    let keys = unlike(random, t);
+    let blanked = blank_for(edition, &keys, n, t);
+    let mut sheet = blanked.clone();
+    set_w(&mut sheet, w);
+    let mut book = Book::new(n);
+    book.count = w;
     for _ in 0..calls {
         let slot = random_slot(random, n);
-        if random.below(4) == 0 {
+        if let Some(met) = strangers.as_mut().filter(|_| random.below(3) == 0) {
+            let caption = random_caption(random);
+            let number = strange_write(random, &keys, &blanked, &mut sheet, slot, &caption);
+            met[usize::from(number)] += 1;
+        } else if random.below(4) == 0 {
             let answer = reference::clear(&mut sheet, slot);
             assert_eq!(answer, refused(book.clear(slot)));
         } else {
@@ -49,8 +63,7 @@ fn run(
         assert!(reference::fit(&sheet));
     }
     assert_eq!(w_of(&sheet), book.count);
-    let mut header = edition.blank_sheet(n, t);
-    header.truncate(edition.header());
+    let mut header = blanked[..edition.header()].to_vec();
     set_w(&mut header, book.count);
     assert_eq!(sheet[..edition.header()], header);
     for slot in 0..n {
@@ -58,15 +71,33 @@ fn run(
     }
 }
 
+/// A stranger's write: it gives the refusal that the stranger's keys meet with
+/// the sheet as blanked, and changes nothing.
+fn strange_write(
+    random: &mut Random,
+    keys: &(Vec<u8>, Vec<u8>),
+    blanked: &[u8],
+    sheet: &mut [u8],
+    slot: usize,
+    caption: &[u8],
+) -> u8 {
+    let (stranger, number) = stranger(random, blanked[3], keys);
+    let refusal = reference::key_refusal(&stranger.0, &stranger.1, blanked);
+    assert_eq!(refusal, number);
+    let before = sheet.to_vec();
+    assert_eq!(write(&stranger, sheet, slot, caption), refused(number));
+    assert_eq!(sheet, before);
+    number
+}
+
 #[test]
 fn random_lists_on_small_sheets() {
     let mut random = Random::new(90);
-    for (edition, t) in kinds() {
+    for kind in kinds() {
         for _ in 0..40 {
             let n = 1 + random.below(6);
             let calls = random.below(40);
-            let sheet = edition.blank_sheet(n, t);
-            run(&mut random, (edition, t), calls, sheet, Book::new(n));
+            run(&mut random, kind, (n, 0), calls, None);
         }
     }
 }
@@ -75,11 +106,11 @@ fn random_lists_on_small_sheets() {
 fn random_lists_with_every_serial() {
     let mut random = Random::new(94);
     for serial in Edition::SERIALS {
-        for t in CLASSES {
-            let kind = (Edition::Two(serial), t);
-            for _ in 0..5 {
-                let sheet = kind.0.blank_sheet(3, t);
-                run(&mut random, kind, 20, sheet, Book::new(3));
+        for edition in [Edition::Two(serial), Edition::Three(serial)] {
+            for t in CLASSES {
+                for _ in 0..5 {
+                    run(&mut random, (edition, t), (3, 0), 20, None);
+                }
             }
         }
     }
@@ -88,10 +119,9 @@ fn random_lists_with_every_serial() {
 #[test]
 fn the_empty_list() {
     let mut random = Random::new(91);
-    for (edition, t) in kinds() {
+    for kind in kinds() {
         for n in [1, 2, 256] {
-            let sheet = edition.blank_sheet(n, t);
-            run(&mut random, (edition, t), 0, sheet, Book::new(n));
+            run(&mut random, kind, (n, 0), 0, None);
         }
     }
 }
@@ -99,23 +129,68 @@ fn the_empty_list() {
 #[test]
 fn random_lists_on_the_longest_sheet() {
     let mut random = Random::new(92);
-    for (edition, t) in kinds() {
-        let sheet = edition.blank_sheet(256, t);
-        run(&mut random, (edition, t), 300, sheet, Book::new(256));
+    for kind in kinds() {
+        run(&mut random, kind, (256, 0), 300, None);
     }
 }
 
-/// Not from a blank sheet, but from one whose w is near its end.
+/// Not from a blank sheet's w, but from one that is near its end.
 #[test]
 fn random_lists_on_a_sheet_that_wears_out() {
     let mut random = Random::new(93);
-    for (edition, t) in kinds() {
+    for kind in kinds() {
         for left in [0, 1, 2, 5] {
-            let mut sheet = edition.blank_sheet(3, t);
-            set_w(&mut sheet, u32::MAX - left);
-            let mut book = Book::new(3);
-            book.count = u32::MAX - left;
-            run(&mut random, (edition, t), 25, sheet, book);
+            run(&mut random, kind, (3, u32::MAX - left), 25, None);
+        }
+    }
+}
+
+/// Strangers of every kind, on small sheets, long ones and worn ones.
+#[test]
+fn random_lists_with_strangers() {
+    let mut random = Random::new(95);
+    for edition in Edition::ALL {
+        let mut met = [0; 15];
+        for t in CLASSES {
+            for _ in 0..60 {
+                let n = 1 + random.below(6);
+                let calls = random.below(40);
+                run(&mut random, (edition, t), (n, 0), calls, Some(&mut met));
+            }
+            run(&mut random, (edition, t), (256, 0), 100, Some(&mut met));
+            for left in [0, 1, 2, 5] {
+                let w = u32::MAX - left;
+                run(&mut random, (edition, t), (3, w), 25, Some(&mut met));
+            }
+        }
+        report(&format!(
+            "strangers' writes by number, {edition:?}: {met:?}"
+        ));
+        let numbers: &[usize] = match edition {
+            Edition::Three(_) => &[1, 2, 5, 14],
+            _ => &[1, 2, 5],
+        };
+        let any: Vec<usize> = (0..15).filter(|number| met[*number] > 0).collect();
+        assert_eq!(any, numbers);
+        assert!(any.iter().all(|number| met[*number] > 100));
+    }
+}
+
+/// A list of strangers alone leaves a blank sheet.
+#[test]
+fn a_list_of_strangers_alone() {
+    let mut random = Random::new(96);
+    for (edition, t) in kinds() {
+        let keys = unlike(&mut random, t);
+        let blanked = blank_for(edition, &keys, 2, t);
+        let mut sheet = blanked.clone();
+        for _ in 0..100 {
+            let slot = random_slot(&mut random, 2);
+            strange_write(&mut random, &keys, &blanked, &mut sheet, slot, b"mine");
+        }
+        assert_eq!(sheet, blanked);
+        for slot in 0..2 {
+            assert_eq!(read(&keys, &sheet, slot), (refused(9), [0; 192]));
         }
     }
 }

@@ -1,7 +1,9 @@
 //! Broken rules of a sheet, found and made here and by no program that is tested
-//! (document 02, request 5).
+//! (document 02, requests 5 and 7).
 
 use crate::edition::Edition;
+use crate::support::UNKNOWN_EDITION;
+use std::ops::Range;
 
 /// Rule, slot and place.
 pub type Numbers = (u8, u16, u16);
@@ -34,6 +36,15 @@ fn edition_of(sheet: &[u8]) -> Option<Edition> {
     editions.find(|edition| edition.number() == sheet[3])
 }
 
+/// The header's zero bytes. Edition 1 has none there, and edition 3 its key mark,
+/// which may be any six bytes.
+pub fn zero_bytes(edition: Edition) -> Range<usize> {
+    match edition {
+        Edition::Two(_) => 10..16,
+        Edition::One | Edition::Three(_) => 10..10,
+    }
+}
+
 /// The header's broken rules, each with its byte; the length's is past them all.
 fn broken_header(sheet: &[u8]) -> Vec<(usize, Numbers)> {
     let mut broken = Vec::new();
@@ -44,8 +55,7 @@ fn broken_header(sheet: &[u8]) -> Vec<(usize, Numbers)> {
             if sheet.len() != edition.sheet_length(n) {
                 broken.push((usize::MAX, (6, 0, 0)));
             }
-            // None of edition 1, whose header ends before byte 10.
-            let zeros = 10..edition.header().min(sheet.len());
+            let zeros = zero_bytes(edition).filter(|place| *place < sheet.len());
             let set = zeros.filter(|place| sheet[*place] != 0);
             broken.extend(set.map(|place| (place, (5, 0, place as u16))));
         }
@@ -115,7 +125,7 @@ impl Break {
             Break::KeyClass,
             Break::Edition,
         ];
-        all.extend((10..edition.header()).map(Break::HeaderZero));
+        all.extend(zero_bytes(edition).map(Break::HeaderZero));
         all.push(Break::Length);
         for slot in 0..3 {
             all.extend([Break::MarkNumber(slot), Break::MarkLength(slot)]);
@@ -156,7 +166,7 @@ impl Break {
             Break::Short => sheet.truncate([7, 0, 1, 4][way]),
             Break::SlotCount => put(sheet, 0, &[[0, 0], [1, 1], [255, 255], [2, 0]][way]),
             Break::KeyClass => sheet[2] = [5, 0, 255, 10][way],
-            Break::Edition => sheet[3] = [3, 0, 255, 129][way],
+            Break::Edition => sheet[3] = [UNKNOWN_EDITION, 0, 255, 129][way],
             Break::HeaderZero(place) => sheet[place] = [1, 0x80, 255, 16][way],
             Break::Length => {
                 let length = sheet.len();

@@ -7,7 +7,7 @@ use crate::term_sheet::*;
 
 /// A sheet of n slots, each with its slot number as the caption.
 fn numbered_sheet(edition: Edition, keys: &(Vec<u8>, Vec<u8>), n: usize, t: usize) -> Vec<u8> {
-    let mut sheet = edition.blank_sheet(n, t);
+    let mut sheet = blank_for(edition, keys, n, t);
     for slot in 0..n {
         let caption = slot.to_string();
         assert_eq!(
@@ -31,7 +31,7 @@ const NOTHING: [u8; 192] = [0; 192];
 fn on_show_from_the_opening_to_the_closing_day() {
     let mut random = Random::new(100);
     for (edition, t) in kinds() {
-        let keys = pair(&mut random, edition, t);
+        let keys = unlike(&mut random, t);
         let sheet = numbered_sheet(edition, &keys, 2, t);
         let ends = [0, 1, 2, 255, 256, 257, 18000, 36522, 36523, 36524];
         let (mut on, mut off) = (0, 0);
@@ -65,7 +65,7 @@ fn on_show_from_the_opening_to_the_closing_day() {
 fn opening_above_closing_means_never_and_the_other_slots_are_read() {
     let mut random = Random::new(101);
     for edition in Edition::ALL {
-        let keys = pair(&mut random, edition, 6);
+        let keys = unlike(&mut random, 6);
         let sheet = numbered_sheet(edition, &keys, 3, 6);
         for never in [NEVER, (36524, 0), (36524, 36523), (7, 6)] {
             let terms = term_sheet(&[ALWAYS, never, ALWAYS]);
@@ -85,7 +85,7 @@ fn opening_above_closing_means_never_and_the_other_slots_are_read() {
 fn each_slot_of_256_has_a_term_of_its_own() {
     let mut random = Random::new(102);
     for edition in Edition::ALL {
-        let keys = pair(&mut random, edition, 4);
+        let keys = unlike(&mut random, 4);
         let sheet = numbered_sheet(edition, &keys, 256, 4);
         let days: Vec<Term> = (0..256).map(|slot| (100 * slot, 100 * slot)).collect();
         let terms = term_sheet(&days);
@@ -106,7 +106,7 @@ fn each_slot_of_256_has_a_term_of_its_own() {
 fn days_of_the_call_on_both_sides_of_the_last() {
     let mut random = Random::new(103);
     for (edition, t) in kinds() {
-        let keys = pair(&mut random, edition, t);
+        let keys = unlike(&mut random, t);
         let sheet = numbered_sheet(edition, &keys, 1, t);
         for term in [ALWAYS, NEVER, (36524, 36524), (0, 0)] {
             let terms = term_sheet(&[term]);
@@ -138,7 +138,7 @@ fn days_of_the_call_on_both_sides_of_the_last() {
 fn days_of_the_term_sheet_on_both_sides_of_the_last() {
     let mut random = Random::new(104);
     for (edition, t) in kinds() {
-        let keys = pair(&mut random, edition, t);
+        let keys = unlike(&mut random, t);
         let mut sheet = numbered_sheet(edition, &keys, 3, t);
         assert_eq!(reference::clear(&mut sheet, 1), accepted(0));
         let terms = term_sheet(&[ALWAYS; 3]);
@@ -165,7 +165,7 @@ fn a_term_sheet_of_another_n_or_length_is_unfit() {
     let mut random = Random::new(105);
     for edition in Edition::ALL {
         for n in [1, 2, 5, 256] {
-            let keys = pair(&mut random, edition, 8);
+            let keys = unlike(&mut random, 8);
             let sheet = numbered_sheet(edition, &keys, n, 8);
             let terms = term_sheet(&vec![ALWAYS; n]);
             let own = dated_read(&keys, &sheet, &terms, n - 1, 7);
@@ -185,7 +185,7 @@ fn a_term_sheet_of_another_n_or_length_is_unfit() {
                 other_n,
             ] {
                 // Also where the slot is blank or isn't there.
-                let blank = edition.blank_sheet(n, 8);
+                let blank = blank_for(edition, &keys, n, 8);
                 for (sheet, slot) in [(&sheet, 0), (&sheet, n), (&blank, 0)] {
                     let read = dated_read(&keys, sheet, &unfit, slot, 7);
                     assert_eq!(read, (refused(4), NOTHING));
@@ -200,7 +200,7 @@ fn a_term_sheet_of_another_n_or_length_is_unfit() {
 fn a_blank_slot_off_show_is_blank_and_an_altered_one_off_show_is_not_on_show() {
     let mut random = Random::new(106);
     for (edition, t) in kinds() {
-        let keys = pair(&mut random, edition, t);
+        let keys = unlike(&mut random, t);
         let mut sheet = numbered_sheet(edition, &keys, 3, t);
         assert_eq!(reference::clear(&mut sheet, 0), accepted(0));
         sheet[edition.mark_place(1).start + 8] ^= 1;
@@ -219,7 +219,7 @@ fn a_blank_slot_off_show_is_blank_and_an_altered_one_off_show_is_not_on_show() {
 fn any_window_but_192_gives_3_and_becomes_zero() {
     let mut random = Random::new(107);
     for edition in Edition::ALL {
-        let keys = pair(&mut random, edition, 4);
+        let keys = unlike(&mut random, 4);
         let sheet = numbered_sheet(edition, &keys, 1, 4);
         for (term, number) in [(ALWAYS, 0), (NEVER, 12)] {
             let terms = term_sheet(&[term]);

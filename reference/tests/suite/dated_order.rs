@@ -1,5 +1,5 @@
 //! The order of a dated read's tests, and what an undated read of the same call
-//! settles of it (document 02, requests 1 and 5).
+//! settles of it (document 02, requests 1, 5 and 7).
 
 use crate::edition::Edition;
 use crate::random::Random;
@@ -10,7 +10,7 @@ use reference::Pointed;
 
 /// The numbers in the order of the tests; the first 4 is the caption sheet's,
 /// the second the term sheet's.
-const ORDER: [u8; 11] = [1, 2, 3, 4, 4, 5, 11, 6, 9, 12, 10];
+const ORDER: [u8; 12] = [1, 2, 3, 4, 4, 5, 11, 14, 6, 9, 12, 10];
 const UNFIT_TERMS: usize = 4;
 
 /// A set of tests that shall apply, a bit for each place in the order.
@@ -44,9 +44,16 @@ impl Set {
 
     /// The numbers that an undated read knows too.
     fn undated(self) -> Vec<u8> {
-        (1..=10)
-            .filter(|number| ORDER.contains(number) && self.has(*number))
-            .collect()
+        let undated = [1, 2, 3, 4, 5, 14, 6, 9, 10].into_iter();
+        undated.filter(|number| self.has(*number)).collect()
+    }
+
+    /// The editions of which a sheet can meet all of the set.
+    fn editions(self) -> Vec<Edition> {
+        let has_mark = |edition: &Edition| edition.number() == 3;
+        let mut editions = Edition::ALL.to_vec();
+        editions.retain(|edition| has_mark(edition) || !self.has(14));
+        editions
     }
 
     /// A term sheet for the 3 slots of a call, and a day.
@@ -132,11 +139,15 @@ fn by_the_law(call: &Call, terms: &[u8], day: usize) -> (Pointed, Vec<u8>) {
 #[test]
 fn a_dated_read_gives_the_first_refusal_of_every_set_and_zeroes_its_window() {
     let mut random = Random::new(110);
-    let kinds: Vec<(Edition, usize)> = kinds().collect();
-    let mut met = [0; 13];
-    for set in Set::all() {
+    let mut met = [0; 15];
+    let with_edition = |set: Set| {
+        set.editions()
+            .into_iter()
+            .map(move |edition| (set, edition))
+    };
+    for (set, edition) in Set::all().flat_map(with_edition) {
         for way in 0..WAYS {
-            let kind = kinds[(way + usize::from(set.0)) % kinds.len()];
+            let kind = (edition, CLASSES[(way + usize::from(set.0)) % 3]);
             let call = call_for(&set.undated(), kind, way, &mut random);
             let (terms, day) = set.terms_and_day(way, &mut random);
             let (answer, window) = dated(&call, &terms, day);
@@ -152,16 +163,17 @@ fn a_dated_read_gives_the_first_refusal_of_every_set_and_zeroes_its_window() {
         }
     }
     // A read never meets 7 and 8.
-    let numbers: Vec<usize> = (0..13).filter(|number| met[*number] > 0).collect();
-    assert_eq!(numbers, [0, 1, 2, 3, 4, 5, 6, 9, 10, 11, 12]);
-    assert_eq!(met.iter().sum::<usize>(), WAYS * 1536);
+    let numbers: Vec<usize> = (0..15).filter(|number| met[*number] > 0).collect();
+    assert_eq!(numbers, [0, 1, 2, 3, 4, 5, 6, 9, 10, 11, 12, 14]);
+    // Sets without 14 on three editions, those with it on one.
+    assert_eq!(met.iter().sum::<usize>(), WAYS * 1536 * 4);
 }
 
 /// A sheet of up to 4 slots, blank, written and altered ones in any mix.
 fn some_sheet(random: &mut Random, edition: Edition, t: usize) -> (Vec<u8>, Call) {
-    let keys = pair(random, edition, t);
+    let keys = unlike(random, t);
     let n = 1 + random.below(4);
-    let mut sheet = edition.blank_sheet(n, t);
+    let mut sheet = blank_for(edition, &keys, n, t);
     for slot in 0..n {
         let what = random.below(4);
         if what > 0 {
@@ -190,8 +202,8 @@ fn some_sheet(random: &mut Random, edition: Edition, t: usize) -> (Vec<u8>, Call
 /// Things that go wrong, each one seldom, and any number of them at once.
 fn spoil(random: &mut Random, call: &mut Call, terms: &mut Vec<u8>, day: &mut usize) {
     let mut seldom = |times| random.below(times) == 0;
-    let spoilt: [bool; 8] = std::array::from_fn(|_| seldom(9));
-    let [key, twins, span, unfit, unfit_terms, class, date, other_n] = spoilt;
+    let spoilt: [bool; 9] = std::array::from_fn(|_| seldom(9));
+    let [key, twins, span, unfit, unfit_terms, class, date, other_n, near] = spoilt;
     if key {
         call.checking.resize(random.below(20), 7);
     }
@@ -204,6 +216,10 @@ fn spoil(random: &mut Random, call: &mut Call, terms: &mut Vec<u8>, day: &mut us
     if class {
         let t = random.pick(&CLASSES);
         (call.sealing, call.checking) = unlike(random, t);
+    }
+    if near {
+        let place = random.below(call.sealing.len());
+        call.sealing[place] ^= 1;
     }
     if unfit {
         let place = random.below(call.sheet.len());
@@ -225,7 +241,7 @@ fn spoil(random: &mut Random, call: &mut Call, terms: &mut Vec<u8>, day: &mut us
 #[test]
 fn a_dated_read_keeps_to_the_undated_one() {
     let mut random = Random::new(111);
-    let mut met = [0; 13];
+    let mut met = [0; 15];
     for (edition, t) in kinds() {
         for _ in 0..700 {
             let (terms, call) = some_sheet(&mut random, edition, t);
@@ -240,8 +256,8 @@ fn a_dated_read_keeps_to_the_undated_one() {
             }
         }
     }
-    let numbers: Vec<usize> = (0..13).filter(|number| met[*number] > 20).collect();
-    assert_eq!(numbers, [0, 1, 2, 3, 4, 5, 6, 9, 10, 11, 12], "{met:?}");
+    let numbers: Vec<usize> = (0..15).filter(|number| met[*number] > 20).collect();
+    assert_eq!(numbers, [0, 1, 2, 3, 4, 5, 6, 9, 10, 11, 12, 14], "{met:?}");
 }
 
 /// Bytes of every length in every place: a number is answered and no test
@@ -254,14 +270,18 @@ fn any_bytes_and_any_numbers_are_answered() {
         for length in 0..1500 {
             let lengths = [8, 12, 16, random.below(20)];
             let key = random.pick(&lengths);
-            let sheet = match random.below(3) {
+            let mut sheet = match random.below(3) {
                 0 => random.bytes(length),
                 1 => one_slot[..length.min(one_slot.len())].to_vec(),
                 _ => edition.blank_sheet(1 + length % 4, key / 2),
             };
+            let keys = (random.bytes(key), random.bytes(key));
+            if [8, 12, 16].contains(&key) && sheet.len() >= 16 && random.below(2) == 0 {
+                put_mark(&mut sheet, &keys);
+            }
             let call = Call {
-                sealing: random.bytes(key),
-                checking: random.bytes(key),
+                sealing: keys.0,
+                checking: keys.1,
                 sheet,
                 slot: random.next() as usize >> random.below(64),
                 caption: Vec::new(),

@@ -1,4 +1,4 @@
-//! "Each side of each edge" (document 01).
+//! "Each side of each edge" (document 01; of blanking, in its own file).
 
 use crate::edition::Edition;
 use crate::random::Random;
@@ -25,12 +25,13 @@ fn key_bytes_7_9_13_17_refused_and_8_12_16_taken() {
                 16 | 17 => 8,
                 _ => 4,
             };
+            let keys = (key, other);
             let mut sheet = edition.blank_sheet(1, t);
-            assert_eq!(
-                unpointed(reference::write(&key, &other, &mut sheet, 0, b"x")),
-                refused(number)
-            );
-            let (answer, _) = read(&(key, other), &sheet, 0);
+            if number == 0 {
+                put_mark(&mut sheet, &keys);
+            }
+            assert_eq!(write(&keys, &mut sheet, 0, b"x"), refused(number));
+            let (answer, _) = read(&keys, &sheet, 0);
             let taken = if number == 0 { accepted(1) } else { refused(1) };
             assert_eq!(answer, taken);
         }
@@ -41,8 +42,8 @@ fn key_bytes_7_9_13_17_refused_and_8_12_16_taken() {
 fn caption_192_taken_and_193_refused() {
     let mut random = Random::new(40);
     for (edition, t) in kinds() {
-        let keys = pair(&mut random, edition, t);
-        let mut sheet = edition.blank_sheet(2, t);
+        let keys = unlike(&mut random, t);
+        let mut sheet = blank_for(edition, &keys, 2, t);
         let caption = random.bytes(193);
         assert_eq!(write(&keys, &mut sheet, 1, &caption[..192]), accepted(0));
         let before = sheet.clone();
@@ -59,8 +60,8 @@ fn slot_n_minus_1_taken_and_n_refused() {
     let mut random = Random::new(41);
     for edition in Edition::ALL {
         for n in [1, 2, 7, 256] {
-            let keys = pair(&mut random, edition, 4);
-            let mut sheet = edition.blank_sheet(n, 4);
+            let keys = unlike(&mut random, 4);
+            let mut sheet = blank_for(edition, &keys, n, 4);
             assert_eq!(write(&keys, &mut sheet, n - 1, b"last"), accepted(0));
             for slot in [n, n + 1, 65535, 65536, 65536 + n - 1, 1 << 32, usize::MAX] {
                 let before = sheet.clone();
@@ -80,8 +81,8 @@ fn slot_n_minus_1_taken_and_n_refused() {
 fn the_last_write_is_taken_and_the_next_is_worn() {
     let mut random = Random::new(42);
     for (edition, t) in kinds() {
-        let keys = pair(&mut random, edition, t);
-        let mut sheet = edition.blank_sheet(2, t);
+        let keys = unlike(&mut random, t);
+        let mut sheet = blank_for(edition, &keys, 2, t);
         set_w(&mut sheet, 4294967294);
         assert_eq!(write(&keys, &mut sheet, 0, b"last"), accepted(0));
         assert_eq!(w_of(&sheet), 4294967295);

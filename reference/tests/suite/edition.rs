@@ -6,28 +6,33 @@ use std::ops::Range;
 const MARK: usize = 16;
 const FIELD: usize = 192;
 
-/// Edition 2 with its serial.
+/// Editions 2 and 3 with their serial.
 #[derive(Clone, Copy, Debug, PartialEq, Eq)]
 pub enum Edition {
     One,
     Two(u16),
+    Three(u16),
 }
 
 impl Edition {
-    pub const ALL: [Edition; 2] = [Edition::One, Edition::Two(0xa53c)];
+    pub const ALL: [Edition; 3] = [Edition::One, Edition::Two(0xa53c), Edition::BLANKED];
 
     /// The one that blanking makes.
-    pub const BLANKED: Edition = Edition::Two(0xa53c);
+    pub const BLANKED: Edition = Edition::Three(0xa53c);
 
     /// Serials about every edge, for tests that go through serials.
     #[allow(dead_code)]
     pub const SERIALS: [u16; 5] = [0, 1, 255, 256, 65535];
+
+    /// A key mark for sheets whose keys don't matter, and no pair's but by chance.
+    pub const SOME_MARK: [u8; 6] = [0x6d, 0, 0x80, 1, 0xff, 0x2e];
 
     /// Byte 3.
     pub const fn number(self) -> u8 {
         match self {
             Edition::One => 1,
             Edition::Two(_) => 2,
+            Edition::Three(_) => 3,
         }
     }
 
@@ -35,16 +40,17 @@ impl Edition {
     pub fn header(self) -> usize {
         match self {
             Edition::One => 8,
-            Edition::Two(_) => 16,
+            Edition::Two(_) | Edition::Three(_) => 16,
         }
     }
 
     /// The last two bytes of the block that is sealed to make a start block.
-    #[allow(dead_code)]
     pub fn start_tail(self) -> [u8; 2] {
         match self {
             Edition::One => [0, 0],
-            Edition::Two(serial) => [(serial / 256) as u8, (serial % 256) as u8],
+            Edition::Two(serial) | Edition::Three(serial) => {
+                [(serial / 256) as u8, (serial % 256) as u8]
+            }
         }
     }
 
@@ -65,14 +71,18 @@ impl Edition {
         self.field_place(n, n).start
     }
 
-    /// A blank sheet; for a count or a class that no sheet has, its like.
+    /// A blank sheet, in edition 3 with some key mark; for a count or a class that
+    /// no sheet has, its like.
     pub fn blank_sheet(self, n: usize, t: usize) -> Vec<u8> {
         let mut sheet = vec![0; self.sheet_length(n)];
         sheet[0..2].copy_from_slice(&(n as u16).to_be_bytes());
         sheet[2] = t as u8;
         sheet[3] = self.number();
-        if let Edition::Two(serial) = self {
-            sheet[8..10].copy_from_slice(&serial.to_be_bytes());
+        if self != Edition::One {
+            sheet[8..10].copy_from_slice(&self.start_tail());
+        }
+        if let Edition::Three(_) = self {
+            sheet[10..16].copy_from_slice(&Edition::SOME_MARK);
         }
         sheet
     }

@@ -1,4 +1,4 @@
-//! The first fault of a sheet (document 02, request 5).
+//! The first fault of a sheet (document 02, requests 5 and 7).
 
 use crate::broken::*;
 use crate::edition::Edition;
@@ -22,8 +22,8 @@ pub fn written_sheet(
     (edition, t): (Edition, usize),
     lengths: [usize; 3],
 ) -> ((Vec<u8>, Vec<u8>), Vec<u8>) {
-    let keys = pair(random, edition, t);
-    let mut sheet = edition.blank_sheet(3, t);
+    let keys = unlike(random, t);
+    let mut sheet = blank_for(edition, &keys, 3, t);
     for (slot, length) in lengths.into_iter().enumerate() {
         let caption = random.bytes(length);
         assert_eq!(write(&keys, &mut sheet, slot, &caption), accepted(0));
@@ -102,6 +102,8 @@ fn a_sheet_under_8_bytes_is_short_whatever_it_holds() {
     assert_eq!(named(&[0, 1, 4, 0, 0, 0, 0, 0]), (4, 0, 0));
     assert_eq!(named(&[0, 1, 4, 1, 0, 0, 0, 0]), (6, 0, 0));
     assert_eq!(named(&[0, 1, 4, 2, 0, 0, 0, 0]), (6, 0, 0));
+    assert_eq!(named(&[0, 1, 4, 3, 0, 0, 0, 0]), (6, 0, 0));
+    assert_eq!(named(&[0, 1, 4, 4, 0, 0, 0, 0]), (4, 0, 0));
 }
 
 #[test]
@@ -145,18 +147,22 @@ fn byte_2_with_every_value() {
 }
 
 /// As edition 2, byte 11 of an edition 1 sheet is the last of slot 0's write
-/// number; as edition 1, an edition 2 sheet is 8 bytes too long.
+/// number, and a key mark is set; as edition 3 an edition 1 sheet is 8 bytes too
+/// short, and an edition 2 sheet has no fault; as edition 1 the others are 8
+/// bytes too long.
 #[test]
 fn byte_3_with_every_value() {
     let mut random = Random::new(134);
     for (edition, t) in kinds() {
         let (_, mut sheet) = mixed_sheet(&mut random, (edition, t));
+        let set = (10..16).find(|place| sheet[*place] != 0).unwrap_or(0);
         for value in 0..=255 {
             sheet[3] = value;
             let expected = match (edition.number(), value) {
-                (1, 1) | (2, 2) => NOWHERE,
+                (1, 1) | (2, 2 | 3) | (3, 3) => NOWHERE,
                 (1, 2) => (5, 0, 11),
-                (2, 1) => (6, 0, 0),
+                (3, 2) => (5, 0, set as u16),
+                (1, 3) | (2 | 3, 1) => (6, 0, 0),
                 _ => (4, 0, 0),
             };
             assert_eq!(named(&sheet), expected, "{value}");
@@ -164,33 +170,43 @@ fn byte_3_with_every_value() {
     }
 }
 
+/// Bytes 8 and 9 are the serial, bytes 10 to 15 zero or, in edition 3, the key
+/// mark.
 #[test]
-fn bytes_8_to_15_of_edition_2_with_every_value() {
+fn bytes_8_to_15_of_editions_2_and_3_with_every_value() {
     let mut random = Random::new(135);
-    let (_, sheet) = mixed_sheet(&mut random, (Edition::BLANKED, 8));
-    for place in 8..16 {
-        for value in 0..=255 {
-            let mut changed = sheet.clone();
-            changed[place] = value;
-            // Bytes 8 and 9 are the serial.
-            let zero = place < 10 || value == 0;
-            let expected = if zero { NOWHERE } else { (5, 0, place as u16) };
-            assert_eq!(named(&changed), expected, "{place} {value}");
+    for (edition, zeros) in [(Edition::Two(0xa53c), 10..16), (Edition::BLANKED, 0..0)] {
+        let (_, sheet) = mixed_sheet(&mut random, (edition, 8));
+        for place in 8..16 {
+            for value in 0..=255 {
+                let mut changed = sheet.clone();
+                changed[place] = value;
+                let expected = if zeros.contains(&place) && value != 0 {
+                    (5, 0, place as u16)
+                } else {
+                    NOWHERE
+                };
+                assert_eq!(named(&changed), expected, "{place} {value}");
+            }
         }
     }
 }
 
-/// Every set of the six zero bytes set, on sheets that end within the header,
-/// after it, and where they should.
+/// Every set of the six bytes set, on sheets that end within the header, after
+/// it, and where they should: zero bytes of edition 2, edition 3's key mark.
 #[test]
 fn a_short_sheet_is_held_to_the_zero_bytes_it_has() {
-    let whole = Edition::BLANKED.blank_sheet(1, 6);
+    let whole = Edition::Two(0xa53c).blank_sheet(1, 6);
     for set in 0..64 {
         let mut sheet = whole.clone();
         for i in 0..6 {
             sheet[10 + i] = set >> i & 1;
         }
         for length in (8..=17).chain([whole.len() - 1, whole.len()]) {
+            let mut marked = sheet[..length].to_vec();
+            marked[3] = 3;
+            let rule = if length == whole.len() { 0 } else { 6 };
+            assert_eq!(named(&marked), (rule, 0, 0), "{set} {length}");
             let lowest = (10..length.min(16)).find(|place| sheet[*place] != 0);
             let expected = match lowest {
                 Some(place) => (5, 0, place as u16),
@@ -422,7 +438,7 @@ fn each_fault_alone_and_of_each_pair_the_earlier_one() {
     for (edition, t) in kinds() {
         let (_, sheet) = written_sheet(&mut random, (edition, t), [0, 100, 192]);
         let all = Break::all(edition);
-        assert_eq!(all.len(), if edition == Edition::One { 17 } else { 23 });
+        assert_eq!(all.len(), [17, 23, 17][usize::from(edition.number()) - 1]);
         for (i, first) in all.iter().enumerate() {
             for way in 0..BREAK_WAYS {
                 let alone = broken_sheet(edition, &sheet, &[*first], way);
@@ -487,11 +503,19 @@ fn the_lowest_slot_of_256() {
 /// Of slot 0's number 1 only 3 is good, of slot 2's number 3 only 1 and 2, and
 /// of the blank slot's 1664 bits only those that make the number 1 or 2. Length
 /// 5 becomes above 192 by its high byte alone, length 192 by six more bits.
+/// Edition 1 becomes 3, which is longer; edition 2 becomes 3, which fits; and 3
+/// becomes 2, whose zero bytes are set, or 1, which is shorter.
 fn counts_of_flips(edition: Edition, t: usize) -> [usize; 10] {
     let t_flips = if t == 8 { 8 } else { 7 };
-    let zero_flips = 8 * (10..edition.header()).count();
+    let [no_edition, zeros, lengths] = match edition {
+        Edition::One => [7, 0, 8 + 1],
+        Edition::Two(_) => [7, 6 * 8, 8],
+        Edition::Three(_) => [6, 1, 8 + 1],
+    };
     let numbers = 2 + 31 + 30 + 1662;
-    [0, 0, 8, t_flips, 8, zero_flips, 8, numbers, 8 + 14, 4 * 8]
+    let header = [0, 0, 8, t_flips, no_edition, zeros, lengths];
+    let marks = [numbers, 8 + 14, 4 * 8];
+    [&header[..], &marks].concat().try_into().unwrap()
 }
 
 #[test]
@@ -564,6 +588,8 @@ fn bytes_of_any_length_have_a_first_fault_or_none() {
             &[0, 1, 6, 2],
             &[0, 3, 8, 2],
             &[1, 0, 4, 2],
+            &[0, 1, 4, 3],
+            &[0, 2, 8, 3],
         ] {
             let mut sheet = random.bytes(length);
             let shared = start.len().min(length);

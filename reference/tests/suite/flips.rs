@@ -1,5 +1,5 @@
 //! Reads of a sheet with one bit flipped (document 01, the table; document 02,
-//! request 3).
+//! requests 3 and 7).
 
 use crate::edition::Edition;
 use crate::layout::meets_the_layout;
@@ -14,12 +14,19 @@ fn number_after(edition: Edition, flipped: &[u8], place: usize, slot: usize) -> 
     match slot {
         _ if !meets_the_layout(flipped) => 4,
         _ if place == 2 => 5,
+        _ if in_key_mark(flipped, place) => 14,
         _ if own => 10,
         // The serial is in no check, but it changes zeros past a short caption.
         0 if in_serial(edition, place) => 10,
         1 => 9,
         _ => 0,
     }
+}
+
+/// Whether a bit of this place decides on the key mark of a sheet that fits: it
+/// is one of the mark or the serial, or it has made edition 3 of edition 2.
+pub fn in_key_mark(flipped: &[u8], place: usize) -> bool {
+    flipped[3] == 3 && (place == 3 || (8..16).contains(&place))
 }
 
 fn in_serial(edition: Edition, place: usize) -> bool {
@@ -30,9 +37,9 @@ fn in_serial(edition: Edition, place: usize) -> bool {
 fn every_bit_of_a_sheet_flipped() {
     let mut random = Random::new(125);
     for (edition, t) in kinds() {
-        let keys = pair(&mut random, edition, t);
+        let keys = unlike(&mut random, t);
         let longest = random.bytes(192);
-        let mut sheet = edition.blank_sheet(3, t);
+        let mut sheet = blank_for(edition, &keys, 3, t);
         assert_eq!(write(&keys, &mut sheet, 0, b"short"), accepted(0));
         assert_eq!(write(&keys, &mut sheet, 2, &longest), accepted(0));
         let unflipped = [0, 1, 2].map(|slot| read(&keys, &sheet, slot));

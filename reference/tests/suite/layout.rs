@@ -1,5 +1,5 @@
 //! The layout test (document 01, "The sheet", and refusal 4; document 02,
-//! request 3).
+//! requests 3 and 7).
 
 use crate::edition::Edition;
 use crate::random::Random;
@@ -46,8 +46,8 @@ pub fn meets_the_layout(sheet: &[u8]) -> bool {
 
 /// Three slots: the first written, the second blank, the third written last.
 fn mixed_sheet(random: &mut Random, edition: Edition, t: usize) -> Vec<u8> {
-    let keys = pair(random, edition, t);
-    let mut sheet = edition.blank_sheet(3, t);
+    let keys = unlike(random, t);
+    let mut sheet = blank_for(edition, &keys, 3, t);
     for (slot, length) in [(0, 192), (1, 5), (2, 0)] {
         let caption = random.bytes(length);
         assert_eq!(write(&keys, &mut sheet, slot, &caption), accepted(0));
@@ -102,7 +102,14 @@ fn a_length_that_is_not_that_of_n_is_unfit() {
 
 #[test]
 fn lengths_about_every_edge() {
-    let whole = [(1, 1, 216), (2, 1, 224), (1, 256, 53256), (2, 256, 53264)];
+    let whole = [
+        (1, 1, 216),
+        (2, 1, 224),
+        (3, 1, 224),
+        (1, 256, 53256),
+        (2, 256, 53264),
+        (3, 256, 53264),
+    ];
     let edges = [1, 8, 15, 16, 216, 224, 53256, 53264];
     for edition in Edition::ALL {
         for n in [1, 256] {
@@ -129,15 +136,27 @@ fn n_is_1_to_256() {
 
 #[test]
 fn t_is_4_6_or_8_and_byte_3_the_edition_of_the_length() {
-    for edition in Edition::ALL {
-        let sheet = edition.blank_sheet(1, 4);
+    let zero_mark = {
+        let mut sheet = Edition::BLANKED.blank_sheet(1, 4);
+        sheet[10..16].fill(0);
+        sheet
+    };
+    let [one, two, three] = Edition::ALL.map(|edition| edition.blank_sheet(1, 4));
+    // Six zero bytes are a key mark too, but no key mark else is six zero bytes.
+    let sheets: [(_, &[u8]); 4] = [
+        (one, &[1]),
+        (two, &[2, 3]),
+        (three, &[3]),
+        (zero_mark, &[2, 3]),
+    ];
+    for (sheet, editions) in sheets {
         for value in 0..=255 {
             let mut changed = sheet.clone();
             changed[2] = value;
             assert_eq!(fit(&changed), [4, 6, 8].contains(&value));
             let mut changed = sheet.clone();
             changed[3] = value;
-            assert_eq!(fit(&changed), value == edition.number());
+            assert_eq!(fit(&changed), editions.contains(&value));
         }
     }
 }
@@ -243,11 +262,27 @@ fn random_bytes_are_judged_as_the_table_says() {
     }
 }
 
-/// The sheet with the other edition in byte 3: as it is, 8 bytes longer or
-/// shorter at its end, and with 8 zeros put in or 8 bytes taken out after w.
-fn relabelled(sheet: &[u8]) -> [Vec<u8>; 5] {
+#[test]
+fn any_six_bytes_are_fit_for_a_key_mark() {
+    let mut random = Random::new(34);
+    for t in CLASSES {
+        let mut sheet = mixed_sheet(&mut random, Edition::BLANKED, t);
+        for mark in (0..1000).map(|_| random.bytes(6)) {
+            sheet[10..16].copy_from_slice(&mark);
+            assert!(fit(&sheet));
+        }
+        for mark in [[0; 6], [255; 6], Edition::SOME_MARK] {
+            sheet[10..16].copy_from_slice(&mark);
+            assert!(fit(&sheet));
+        }
+    }
+}
+
+/// The sheet with another edition in byte 3: as it is, 8 bytes longer or shorter
+/// at its end, and with 8 zeros put in or 8 bytes taken out after w.
+fn relabelled(sheet: &[u8], edition: Edition) -> [Vec<u8>; 5] {
     let mut same = sheet.to_vec();
-    same[3] = 3 - same[3];
+    same[3] = edition.number();
     let longer = [&same[..], &[0; 8]].concat();
     let shorter = same[..same.len() - 8].to_vec();
     let put_in = [&same[..8], &[0; 8], &same[8..]].concat();
@@ -255,25 +290,48 @@ fn relabelled(sheet: &[u8]) -> [Vec<u8>; 5] {
     [same, longer, shorter, put_in, taken_out]
 }
 
-#[test]
-fn a_relabelled_sheet_is_held_to_the_rules_of_the_other_edition() {
-    let mut random = Random::new(33);
+/// How many of the sheets of an edition, relabelled each way as another, fit.
+fn fitting_as(random: &mut Random, edition: Edition, other: Edition) -> [u32; 5] {
     let mut fitting = [0; 5];
-    for edition in [Edition::One, Edition::Two(0), Edition::Two(0xa53c)] {
-        let mixed = mixed_sheet(&mut random, edition, 4);
-        for mut sheet in [edition.blank_sheet(3, 4), mixed] {
-            for w in [3, u32::MAX] {
-                set_w(&mut sheet, w);
-                for (way, relabelled) in relabelled(&sheet).iter().enumerate() {
-                    assert_eq!(fit(relabelled), meets_the_layout(relabelled));
-                    fitting[way] += u32::from(fit(relabelled));
-                }
+    let mixed = mixed_sheet(random, edition, 4);
+    for mut sheet in [edition.blank_sheet(3, 4), mixed] {
+        for w in [3, u32::MAX] {
+            set_w(&mut sheet, w);
+            for (way, relabelled) in relabelled(&sheet, other).iter().enumerate() {
+                assert_eq!(fit(relabelled), meets_the_layout(relabelled));
+                fitting[way] += u32::from(fit(relabelled));
             }
         }
     }
-    // Longer: edition 1's blank sheets, their zeros moved into the header.
-    // Shorter: the blank sheets with serial 0, and with 0xa53c where w is above
-    // that serial read as a write number. Put in: all of edition 1. Taken out:
-    // all of edition 2.
-    assert_eq!(fitting, [0, 2, 3, 4, 8]);
+    fitting
+}
+
+/// Each edition's two blank sheets and two written ones, with w = 3 and with the
+/// greatest w.
+#[test]
+fn a_relabelled_sheet_is_held_to_the_rules_of_the_other_edition() {
+    use Edition::{One, Three, Two};
+    let mut random = Random::new(33);
+    for (edition, other, fitting) in [
+        // Longer: the blank ones, their zeros moved into the header. Put in: all,
+        // as edition 3 with a key mark of zeros.
+        (One, Two(0), [0, 2, 0, 4, 0]),
+        (One, Three(0), [0, 2, 0, 4, 0]),
+        // Shorter: the blank ones with serial 0, and with 0xa53c where w is above
+        // that serial read as a write number. Taken out: all.
+        (Two(0), One, [0, 0, 2, 0, 4]),
+        (Two(0xa53c), One, [0, 0, 1, 0, 4]),
+        // As it is: all, with a key mark of zeros.
+        (Two(0), Three(0), [4, 0, 0, 0, 0]),
+        (Two(0xa53c), Three(0), [4, 0, 0, 0, 0]),
+        // The key mark is set, and no zero bytes; as a mark's length it is above
+        // 192, or its zero bytes are set.
+        (Three(0), Two(0), [0; 5]),
+        (Three(0xa53c), Two(0), [0; 5]),
+        (Three(0), One, [0, 0, 0, 0, 4]),
+        (Three(0xa53c), One, [0, 0, 0, 0, 4]),
+    ] {
+        let counted = fitting_as(&mut random, edition, other);
+        assert_eq!(counted, fitting, "{edition:?} {other:?}");
+    }
 }

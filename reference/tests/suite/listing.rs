@@ -1,4 +1,4 @@
-//! The listing text (document 01; document 02, request 3).
+//! The listing text (document 01; document 02, requests 3 and 7).
 
 use crate::edition::Edition;
 use crate::random::Random;
@@ -21,8 +21,8 @@ fn written_and_blank_slots() {
     let mut random = Random::new(80);
     for (edition, t) in kinds() {
         let bits = [64, 96, 128][t / 2 - 2];
-        let keys = pair(&mut random, edition, t);
-        let mut sheet = edition.blank_sheet(3, t);
+        let keys = unlike(&mut random, t);
+        let mut sheet = blank_for(edition, &keys, 3, t);
         write(&keys, &mut sheet, 0, b"");
         write(&keys, &mut sheet, 2, &[1; 192]);
         write(&keys, &mut sheet, 1, &[2; 17]);

@@ -1,11 +1,12 @@
 //! What the answers to a read, a write and a dated read carry (document 02,
-//! request 5).
+//! requests 5 and 7).
 
 use crate::broken::*;
 use crate::edition::Edition;
 use crate::faults::{mixed_sheet, written_sheet};
+use crate::flips::in_key_mark;
 use crate::random::Random;
-use crate::refusals::{call_for, first, subsets, WAYS};
+use crate::refusals::{call_for, first, read_sets, write_sets, WAYS};
 use crate::support::*;
 use crate::term_sheet::*;
 use reference::Pointed;
@@ -58,7 +59,7 @@ fn the_answer_is_the_number_and_the_length_alone() {
     assert_eq!((answer.answer().number, answer.answer().length), (1, 3));
 }
 
-/// 4 comes before 5, 6, 7 and 9, so slot, caption and key class don't matter.
+/// 4 comes before 5, 14, 6, 7 and 9, so slot, caption and keys don't matter.
 #[test]
 fn every_call_points_to_the_fault_of_an_unfit_sheet() {
     let mut random = Random::new(160);
@@ -66,13 +67,14 @@ fn every_call_points_to_the_fault_of_an_unfit_sheet() {
     for (edition, t) in kinds() {
         let (keys, sheet) = written_sheet(&mut random, (edition, t), [5, 17, 192]);
         let others = unlike(&mut random, if t == 4 { 8 } else { 4 });
+        let strangers = unlike(&mut random, t);
         let terms = term_sheet(&[ALWAYS; 3]);
         for rule in Break::all(edition) {
             for way in 0..BREAK_WAYS {
                 let broken = broken_sheet(edition, &sheet, &[rule], way);
                 let expected = unfit(rule.numbers());
                 for slot in [0, 1, 2, 3, usize::MAX] {
-                    for keys in [&keys, &others] {
+                    for keys in [&keys, &others, &strangers] {
                         assert_eq!(pointed_read(keys, &broken, slot), expected);
                         assert_eq!(pointed_write(keys, &broken, slot, b"x"), expected);
                         assert_eq!(pointed_write(keys, &broken, slot, &overlong), expected);
@@ -135,6 +137,8 @@ fn after_flip(
         unfit(broken)
     } else if byte == 2 {
         silent(5)
+    } else if in_key_mark(flipped, byte) {
+        silent(14)
     } else if own {
         pointed(refused(10), (10, slot as u16, 0))
     } else if in_serial && slot == 0 {
@@ -174,7 +178,7 @@ fn every_call_with_every_bit_of_a_sheet_flipped() {
             assert_eq!(dated, expected, "{bit}");
             // A write tests nothing that only a read of the slot tests.
             let expected = match expected.number {
-                4 | 5 => expected,
+                4 | 5 | 14 => expected,
                 _ => pointed(accepted(0), NOWHERE),
             };
             assert_eq!(pointed_write(&keys, &flipped, 1, b""), expected, "{bit}");
@@ -196,7 +200,7 @@ fn numbers_of(set: &[u8], sheet: &[u8]) -> Numbers {
 fn a_read_and_a_write_point_by_their_first_refusal_of_every_set() {
     let mut random = Random::new(163);
     for kind in kinds() {
-        for set in subsets(&[1, 2, 4, 5, 6, 7, 8]) {
+        for set in write_sets(kind.0) {
             for way in 0..WAYS {
                 let call = call_for(&set, kind, way, &mut random);
                 let keys = (call.sealing, call.checking);
@@ -205,7 +209,7 @@ fn a_read_and_a_write_point_by_their_first_refusal_of_every_set() {
                 assert_eq!(answer, expected, "{set:?} {way}");
             }
         }
-        for set in subsets(&[1, 2, 3, 4, 5, 6, 10]) {
+        for set in read_sets(kind.0) {
             for way in 0..WAYS {
                 let call = call_for(&set, kind, way, &mut random);
                 let answer = reference::read(
@@ -257,6 +261,13 @@ fn accepted_calls_and_refusals_other_than_4_and_10_carry_zeros() {
         assert_eq!(pointed_write(&others, &sheet, 0, b""), silent(5));
         assert_eq!(pointed_dated(&others, &sheet, &terms, 0, 0), silent(5));
         assert_eq!(pointed_dated(&keys, &sheet, &terms, 0, 36525), silent(11));
+        if edition.number() == 3 {
+            let strangers = unlike(&mut random, t);
+            assert_eq!(pointed_read(&strangers, &sheet, 0), silent(14));
+            assert_eq!(pointed_write(&strangers, &sheet, 0, b""), silent(14));
+            let dated = pointed_dated(&strangers, &sheet, &terms, 0, 0);
+            assert_eq!(dated, silent(14));
+        }
         assert_eq!(pointed_read(&keys, &sheet, 3), silent(6));
         assert_eq!(pointed_write(&keys, &sheet, 3, b""), silent(6));
         assert_eq!(pointed_dated(&keys, &sheet, &terms, 3, 0), silent(6));
@@ -356,7 +367,7 @@ fn a_wrong_n_of_the_caption_sheet_is_not_the_term_sheet_s() {
     }
 }
 
-/// Before 5, 11, 6, 9, 12 and 10, each of which is met with good terms.
+/// Before 5, 11, 14, 6, 9, 12 and 10, each of which is met with good terms.
 #[test]
 fn an_unfit_term_sheet_is_named_before_all_that_follows() {
     let mut random = Random::new(167);
@@ -365,14 +376,20 @@ fn an_unfit_term_sheet_is_named_before_all_that_follows() {
         sheet[edition.mark_place(2).start + 9] ^= 4;
         let others = unlike(&mut random, if t == 8 { 6 } else { 8 });
         let good = term_sheet(&[NEVER, ALWAYS, ALWAYS]);
-        for (keys, slot, day, expected) in [
+        let strangers = unlike(&mut random, t);
+        let mut calls = vec![
             (&others, 0, 7, silent(5)),
             (&keys, 0, 36525, silent(11)),
             (&keys, 3, 7, silent(6)),
             (&keys, 1, 7, silent(9)),
             (&keys, 0, 7, silent(12)),
             (&keys, 2, 7, pointed(refused(10), (10, 2, 0))),
-        ] {
+        ];
+        if edition.number() == 3 {
+            calls.push((&strangers, 0, 7, silent(14)));
+            calls.push((&strangers, 3, 36525, silent(11)));
+        }
+        for (keys, slot, day, expected) in calls {
             assert_eq!(pointed_dated(keys, &sheet, &good, slot, day), expected);
             for terms in unfit_terms() {
                 let answer = pointed_dated(keys, &sheet, &terms, slot, day);
@@ -387,11 +404,11 @@ fn an_unfit_term_sheet_is_named_before_all_that_follows() {
 fn a_dated_read_points_in_an_altered_slot_as_an_undated_one_does() {
     let mut random = Random::new(168);
     for (edition, t) in kinds() {
-        let keys = pair(&mut random, edition, t);
+        let keys = unlike(&mut random, t);
         let (sealing, checking) = (&keys.0, &keys.1);
         let terms = term_sheet(&[ALWAYS, NEVER]);
         for place in (0..192).step_by(5) {
-            let mut sheet = edition.blank_sheet(2, t);
+            let mut sheet = blank_for(edition, &keys, 2, t);
             let mut plain = [0; 192];
             plain[place] = 1;
             for slot in 0..2 {

@@ -34,6 +34,7 @@ fn the_program_prints_each_kind_of_vectors() {
         ("cmac", cmacs()),
         ("steps", steps()),
         ("cbc", cbc()),
+        ("marks", marks()),
         ("sheet", sheet()),
         ("faults", faults()),
     ] {
@@ -159,9 +160,13 @@ fn the_program_prints_the_first_fault_or_none() {
         set[mark + 7] = 1;
         assert_eq!(printed(&["fault"], &set), b"9 13 7\n");
     }
-    let mut edition_2 = Edition::BLANKED.blank_sheet(1, 4);
+    let mut edition_2 = Edition::Two(0xa53c).blank_sheet(1, 4);
     edition_2[15] = 1;
     assert_eq!(printed(&["fault"], &edition_2), b"5 0 15\n");
+    assert_eq!(printed(&["fault"], &edition_2[..15]), b"6 0 0\n");
+    // As edition 3, a key mark.
+    edition_2[3] = 3;
+    assert_eq!(printed(&["fault"], &edition_2), b"none\n");
     assert_eq!(printed(&["fault"], &edition_2[..15]), b"6 0 0\n");
     assert_eq!(printed(&["fault"], b""), b"1 0 0\n");
 }
@@ -197,6 +202,9 @@ fn anything_else_gives_usage_and_status_64() {
         &["faults"],
         &["vectors", "fault"],
         &["vectors", "faults", "4"],
+        &["marks"],
+        &["vectors", "mark"],
+        &["vectors", "marks", "4"],
         &["dates", "2000"],
         &["Vectors", "blocks"],
         &["--help"],

@@ -1,5 +1,5 @@
 //! Each refusal from both sides, and their order (document 01, the table;
-//! document 02, request 3).
+//! document 02, requests 3 and 7).
 
 use crate::edition::Edition;
 use crate::random::Random;
@@ -14,8 +14,34 @@ fn is_key_length(length: usize) -> bool {
     [8, 12, 16].contains(&length)
 }
 
-/// All subsets of a list of numbers.
-pub fn subsets(numbers: &[u8]) -> Vec<Vec<u8>> {
+/// The tests of a write, in their order.
+const WRITE_ORDER: [u8; 8] = [1, 2, 4, 5, 14, 6, 7, 8];
+/// The tests of a read, in their order, but for 9 and 10 at the end.
+const READ_ORDER: [u8; 7] = [1, 2, 3, 4, 5, 14, 6];
+
+/// All sets of the numbers that a call on an edition can meet; only edition 3
+/// has a key mark.
+fn sets_of(numbers: &[u8], edition: Edition) -> Vec<Vec<u8>> {
+    let met = |number: &u8| *number != 14 || matches!(edition, Edition::Three(_));
+    let numbers: Vec<u8> = numbers.iter().copied().filter(met).collect();
+    subsets(&numbers)
+}
+
+/// All sets of refusals that apply to a write together.
+pub fn write_sets(edition: Edition) -> Vec<Vec<u8>> {
+    sets_of(&WRITE_ORDER, edition)
+}
+
+/// All sets of refusals that apply to a read together. A blank slot has no
+/// check, so 9 and 10 never do.
+pub fn read_sets(edition: Edition) -> Vec<Vec<u8>> {
+    let sets = sets_of(&READ_ORDER, edition).into_iter();
+    let ended = |set: Vec<u8>| [&[][..], &[9], &[10]].map(|end| [&set, end].concat());
+    sets.flat_map(ended).collect()
+}
+
+/// All subsets of a list of numbers, each in the list's order.
+fn subsets(numbers: &[u8]) -> Vec<Vec<u8>> {
     let mut all = vec![Vec::new()];
     for number in numbers {
         for mut subset in all.clone() {
@@ -26,9 +52,9 @@ pub fn subsets(numbers: &[u8]) -> Vec<Vec<u8>> {
     all
 }
 
-/// The first number of a set, or 0.
+/// The first number of a set, or 0; a set is in the order of the tests.
 pub fn first(set: &[u8]) -> u8 {
-    set.iter().copied().min().unwrap_or(0)
+    set.first().copied().unwrap_or(0)
 }
 
 #[test]
@@ -125,10 +151,63 @@ pub struct Call {
 }
 
 /// How many ways there are of provoking a refusal, at most.
-pub const WAYS: usize = 8;
+pub const WAYS: usize = 9;
 
-/// A call to which each refusal of the set applies, whatever else does:
-/// `way` chooses among ways of provoking one.
+/// Makes a sheet unfit.
+fn make_unfit(sheet: &mut Vec<u8>, edition: Edition, way: usize) {
+    let mark = edition.mark_place(0).start;
+    match way % WAYS {
+        0 => sheet[3] = UNKNOWN_EDITION,
+        1 => sheet.truncate(edition.header() - 1),
+        2 => sheet[mark + 12] = 1,
+        3 => sheet[edition.field_place(3, 0).start] = 1,
+        4 => sheet.push(0),
+        5 => sheet.clear(),
+        // Another edition, though not 3 for 2, as which it fits.
+        6 => sheet[3] = if edition == Edition::One { 3 } else { 1 },
+        // Edition 2 with a zero byte of the header set: that byte is in slot 0's
+        // mark in edition 1, in the key mark in edition 3.
+        7 => {
+            sheet[3] = 2;
+            sheet[15] = 1;
+        }
+        // A zero byte of slot 0's mark.
+        _ => sheet[mark + 7] = 1,
+    }
+}
+
+/// Makes the key mark of a sheet of edition 3 another one than the keys'.
+fn unmark(sheet: &mut [u8], (sealing, checking): &(Vec<u8>, Vec<u8>), way: usize) {
+    let before = sheet[8..16].to_vec();
+    match way % WAYS {
+        0 => sheet[10] ^= 0x80,
+        1 => sheet[15] ^= 1,
+        2 => sheet[10..16].fill(0),
+        3 => sheet[10..16].copy_from_slice(&Edition::SOME_MARK),
+        4 => sheet[10..16].reverse(),
+        // The serial, from which the mark is made.
+        5 => sheet[9] ^= 1,
+        // Wrong keys have no mark.
+        _ if !is_key_length(sealing.len()) => {}
+        6 => put_mark(sheet, &(near(sealing), checking.clone())),
+        7 => put_mark(sheet, &(sealing.clone(), near(checking))),
+        _ => put_mark(sheet, &(checking.clone(), sealing.clone())),
+    }
+    // Twins are the same when exchanged.
+    if sheet[8..16] == before {
+        sheet[12] ^= 4;
+    }
+}
+
+/// The key with one bit flipped.
+fn near(key: &[u8]) -> Vec<u8> {
+    let mut key = key.to_vec();
+    key[0] ^= 1;
+    key
+}
+
+/// A call to which each refusal of the set applies, whatever else does, and 14
+/// only where it is in the set: `way` chooses among ways of provoking one.
 pub fn call_for(
     set: &[u8],
     (edition, t): (Edition, usize),
@@ -136,8 +215,8 @@ pub fn call_for(
     random: &mut Random,
 ) -> Call {
     let provoke = |number| set.contains(&number);
-    let mut keys = pair(random, edition, t);
-    let mut sheet = edition.blank_sheet(3, t);
+    let mut keys = unlike(random, t);
+    let mut sheet = blank_for(edition, &keys, 3, t);
     let slot = 1;
     let caption = random.bytes(40);
     if !provoke(9) {
@@ -157,19 +236,6 @@ pub fn call_for(
         assert_ne!(class, t);
         keys = unlike(random, class);
     }
-    if provoke(4) {
-        match way % WAYS {
-            0 => sheet[3] = UNKNOWN_EDITION,
-            1 => sheet.truncate(edition.header() - 1),
-            2 => sheet[edition.mark_place(0).start + 12] = 1,
-            3 => sheet[edition.field_place(3, 0).start] = 1,
-            4 => sheet.push(0),
-            5 => sheet.clear(),
-            6 => sheet[3] = 3 - edition.number(),
-            // A zero byte of the header, in edition 1 one of slot 0's mark.
-            _ => sheet[15] = 1,
-        }
-    }
     if provoke(1) {
         // Equal wrong lengths, as a pair of twins has.
         let length = [0, 7, 9, 13, 15, 17][way % 6];
@@ -178,6 +244,15 @@ pub fn call_for(
     }
     if provoke(2) {
         keys.1 = keys.0.clone();
+    }
+    if is_key_length(keys.0.len()) {
+        put_mark(&mut sheet, &keys);
+    }
+    if provoke(14) {
+        unmark(&mut sheet, &keys, way + set.len());
+    }
+    if provoke(4) {
+        make_unfit(&mut sheet, edition, way);
     }
     Call {
         sealing: keys.0,
@@ -208,7 +283,7 @@ pub fn call_for(
 fn a_write_gives_the_first_refusal_of_every_set() {
     let mut random = Random::new(71);
     for (edition, t) in kinds() {
-        for set in subsets(&[1, 2, 4, 5, 6, 7, 8]) {
+        for set in write_sets(edition) {
             for way in 0..WAYS {
                 let mut call = call_for(&set, (edition, t), way, &mut random);
                 let before = call.sheet.clone();
@@ -229,17 +304,10 @@ fn a_write_gives_the_first_refusal_of_every_set() {
 #[test]
 fn a_read_gives_the_first_refusal_of_every_set_and_zeroes_its_window() {
     let mut random = Random::new(72);
-    let mut sets = Vec::new();
-    for set in subsets(&[1, 2, 3, 4, 5, 6]) {
-        // A blank slot has no check, so 9 and 10 never apply together.
-        sets.push(set.clone());
-        sets.push([set.clone(), vec![9]].concat());
-        sets.push([set, vec![10]].concat());
-    }
     for (edition, t) in kinds() {
-        for set in &sets {
+        for set in read_sets(edition) {
             for way in 0..WAYS {
-                let mut call = call_for(set, (edition, t), way, &mut random);
+                let mut call = call_for(&set, (edition, t), way, &mut random);
                 let answer = unpointed(reference::read(
                     &call.sealing,
                     &call.checking,
@@ -251,7 +319,7 @@ fn a_read_gives_the_first_refusal_of_every_set_and_zeroes_its_window() {
                     assert_eq!(answer, accepted(40));
                     assert_eq!(call.window, shown(&call.caption));
                 } else {
-                    assert_eq!(answer, refused(first(set)), "{set:?} {way}");
+                    assert_eq!(answer, refused(first(&set)), "{set:?} {way}");
                     assert!(call.window.iter().all(|byte| *byte == 0));
                 }
             }
@@ -268,6 +336,9 @@ fn one_wrong_key_or_two_lengths_that_differ_give_1() {
                 let t = sealing / 2;
                 let mut sheet = edition.blank_sheet(1, if fine { t } else { 4 });
                 let keys = (vec![1; sealing], vec![2; checking]);
+                if fine {
+                    put_mark(&mut sheet, &keys);
+                }
                 let number = if fine { 0 } else { 1 };
                 assert_eq!(write(&keys, &mut sheet, 0, b""), refused(number));
                 assert_eq!(read(&keys, &sheet, 0), (refused(number), [0; 192]));
@@ -299,7 +370,10 @@ fn keys_that_differ_in_one_bit_are_not_twins() {
             let mut checking = sealing.clone();
             checking[bit / 8] ^= 1 << (bit % 8);
             let keys = (sealing.clone(), checking);
+            put_mark(&mut sheet, &keys);
+            assert_eq!(write(&twins, &mut sheet, 0, b"x"), refused(2));
             assert_eq!(write(&keys, &mut sheet, 0, b"x"), accepted(0));
+            assert_eq!(read(&keys, &sheet, 0), (accepted(1), shown(b"x")));
         }
     }
 }
@@ -308,8 +382,8 @@ fn keys_that_differ_in_one_bit_are_not_twins() {
 fn any_window_but_192_gives_3_and_becomes_zero() {
     let mut random = Random::new(74);
     for edition in Edition::ALL {
-        let keys = pair(&mut random, edition, 4);
-        let mut sheet = edition.blank_sheet(1, 4);
+        let keys = unlike(&mut random, 4);
+        let mut sheet = blank_for(edition, &keys, 1, 4);
         write(&keys, &mut sheet, 0, b"caption");
         for length in 0..400 {
             let mut window = vec![0xee; length];
@@ -330,12 +404,8 @@ fn keys_of_each_class_on_sheets_of_each_class() {
     let mut random = Random::new(75);
     for (edition, t) in kinds() {
         for class in CLASSES {
-            let keys = if class == t {
-                pair(&mut random, edition, t)
-            } else {
-                unlike(&mut random, class)
-            };
-            let mut sheet = edition.blank_sheet(1, t);
+            let keys = unlike(&mut random, class);
+            let mut sheet = blank_for(edition, &keys, 1, t);
             let number = if class == t { 0 } else { 5 };
             assert_eq!(write(&keys, &mut sheet, 0, b""), refused(number));
             assert_eq!(read(&keys, &sheet, 0).0, refused(number));

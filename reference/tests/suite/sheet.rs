@@ -1,5 +1,5 @@
 //! What the calls store and show (document 01, "The sheet"; document 02,
-//! request 3).
+//! requests 3 and 7).
 
 use crate::edition::Edition;
 use crate::random::Random;
@@ -64,7 +64,7 @@ fn full_sheet(
     n: usize,
     t: usize,
 ) -> Vec<u8> {
-    let mut sheet = edition.blank_sheet(n, t);
+    let mut sheet = blank_for(edition, keys, n, t);
     for slot in 0..n {
         let length = random.below(193);
         let caption = random.bytes(length);
@@ -78,7 +78,7 @@ fn a_write_stores_header_mark_and_field_and_nothing_else() {
     let mut random = Random::new(50);
     for (edition, t) in kinds() {
         for length in [0, 1, 7, 8, 9, 100, 191, 192] {
-            let keys = pair(&mut random, edition, t);
+            let keys = unlike(&mut random, t);
             let slot = random.below(3);
             let mut sheet = full_sheet(&mut random, edition, &keys, 3, t);
             let w = random.next() as u32 >> 1 | 0x10;
@@ -108,8 +108,8 @@ fn a_write_stores_header_mark_and_field_and_nothing_else() {
 fn a_write_into_slot_255_of_256_has_its_slot_in_start_block_and_check() {
     let mut random = Random::new(51);
     for edition in Edition::ALL {
-        let keys = pair(&mut random, edition, 8);
-        let mut sheet = edition.blank_sheet(256, 8);
+        let keys = unlike(&mut random, 8);
+        let mut sheet = blank_for(edition, &keys, 256, 8);
         let mut expected = sheet.clone();
         assert_eq!(write(&keys, &mut sheet, 255, b"far"), accepted(0));
         set_w(&mut expected, 1);
@@ -122,8 +122,8 @@ fn a_write_into_slot_255_of_256_has_its_slot_in_start_block_and_check() {
 fn every_block_of_the_field_is_sealed_however_short_the_caption() {
     let mut random = Random::new(52);
     for (edition, t) in kinds() {
-        let keys = pair(&mut random, edition, t);
-        let mut sheet = edition.blank_sheet(1, t);
+        let keys = unlike(&mut random, t);
+        let mut sheet = blank_for(edition, &keys, 1, t);
         assert_eq!(write(&keys, &mut sheet, 0, b""), accepted(0));
         for block in sheet[edition.field_place(1, 0)].chunks(8) {
             assert_ne!(block, [0; 8]);
@@ -135,8 +135,8 @@ fn every_block_of_the_field_is_sealed_however_short_the_caption() {
 fn two_writes_of_one_caption_are_stored_unlike() {
     let mut random = Random::new(53);
     for edition in Edition::ALL {
-        let keys = pair(&mut random, edition, 6);
-        let mut sheet = edition.blank_sheet(2, 6);
+        let keys = unlike(&mut random, 6);
+        let mut sheet = blank_for(edition, &keys, 2, 6);
         write(&keys, &mut sheet, 0, b"same");
         write(&keys, &mut sheet, 1, b"same");
         let [first, second] = [0, 1].map(|slot| &sheet[edition.field_place(2, slot)]);
@@ -148,8 +148,8 @@ fn two_writes_of_one_caption_are_stored_unlike() {
 fn every_length_is_read_back() {
     let mut random = Random::new(54);
     for (edition, t) in kinds() {
-        let keys = pair(&mut random, edition, t);
-        let mut sheet = edition.blank_sheet(1, t);
+        let keys = unlike(&mut random, t);
+        let mut sheet = blank_for(edition, &keys, 1, t);
         for length in 0..=192 {
             let caption = random.bytes(length);
             assert_eq!(write(&keys, &mut sheet, 0, &caption), accepted(0));
@@ -166,8 +166,8 @@ fn every_length_is_read_back() {
 fn a_caption_of_zero_bytes_keeps_its_length() {
     let mut random = Random::new(55);
     for edition in Edition::ALL {
-        let keys = pair(&mut random, edition, 4);
-        let mut sheet = edition.blank_sheet(1, 4);
+        let keys = unlike(&mut random, 4);
+        let mut sheet = blank_for(edition, &keys, 1, 4);
         for length in [0, 1, 8, 192] {
             assert_eq!(write(&keys, &mut sheet, 0, &vec![0; length]), accepted(0));
             assert_eq!(read(&keys, &sheet, 0), (accepted(length as u16), [0; 192]));
@@ -179,7 +179,7 @@ fn a_caption_of_zero_bytes_keeps_its_length() {
 fn a_clear_makes_208_bytes_zero_keeps_w_and_touches_nothing_else() {
     let mut random = Random::new(56);
     for (edition, t) in kinds() {
-        let keys = pair(&mut random, edition, t);
+        let keys = unlike(&mut random, t);
         for slot in 0..3 {
             let mut sheet = full_sheet(&mut random, edition, &keys, 3, t);
             let mut expected = sheet.clone();
@@ -200,7 +200,7 @@ fn a_clear_makes_208_bytes_zero_keeps_w_and_touches_nothing_else() {
 fn a_write_and_a_clear_test_nothing_of_the_former_content_beyond_the_layout() {
     let mut random = Random::new(57);
     for edition in Edition::ALL {
-        let keys = pair(&mut random, edition, 4);
+        let keys = unlike(&mut random, 4);
         let mut sheet = full_sheet(&mut random, edition, &keys, 2, 4);
         sheet[edition.field_place(2, 0).start] ^= 1;
         sheet[edition.field_place(2, 1).start] ^= 1;
@@ -217,7 +217,7 @@ fn a_write_and_a_clear_test_nothing_of_the_former_content_beyond_the_layout() {
 fn a_slot_moved_to_another_place_is_altered() {
     let mut random = Random::new(59);
     for edition in Edition::ALL {
-        let keys = pair(&mut random, edition, 6);
+        let keys = unlike(&mut random, 6);
         let mut sheet = full_sheet(&mut random, edition, &keys, 2, 6);
         sheet.copy_within(edition.mark_place(0), edition.mark_place(1).start);
         sheet.copy_within(edition.field_place(2, 0), edition.field_place(2, 1).start);
@@ -230,10 +230,10 @@ fn a_slot_moved_to_another_place_is_altered() {
 fn an_opened_byte_at_or_past_the_length_must_be_zero() {
     let mut random = Random::new(60);
     for (edition, t) in kinds() {
-        let keys = pair(&mut random, edition, t);
+        let keys = unlike(&mut random, t);
         for length in [0, 1, 8, 100, 191, 192] {
             let caption = random.bytes(length);
-            let mut sheet = edition.blank_sheet(2, t);
+            let mut sheet = blank_for(edition, &keys, 2, t);
             set_w(&mut sheet, 77);
             for place in [0, 1, 7, 8, 9, 99, 100, 101, 190, 191] {
                 let mut plain = shown(&caption);
@@ -250,20 +250,29 @@ fn an_opened_byte_at_or_past_the_length_must_be_zero() {
     }
 }
 
+/// On edition 3 such keys are others, and the slot is altered only where the
+/// sheet is made their own.
 #[test]
 fn a_read_with_either_key_wrong_is_altered() {
     let mut random = Random::new(61);
     for (edition, t) in kinds() {
-        let keys = pair(&mut random, edition, t);
-        let sheet = full_sheet(&mut random, edition, &keys, 1, t);
+        let keys = unlike(&mut random, t);
+        let number = if edition.number() == 3 { 14 } else { 10 };
+        let mut sheet = full_sheet(&mut random, edition, &keys, 1, t);
         let mut other_checking = keys.clone();
         other_checking.1[0] ^= 1;
-        assert_eq!(read(&other_checking, &sheet, 0), (refused(10), [0; 192]));
+        let read_of = |sheet: &[u8]| read(&other_checking, sheet, 0);
+        assert_eq!(read_of(&sheet), (refused(number), [0; 192]));
+        put_mark(&mut sheet, &other_checking);
+        assert_eq!(read_of(&sheet), (refused(10), [0; 192]));
         // A wrong sealing key is met by the zero bytes, if the caption leaves any.
-        let mut short = edition.blank_sheet(1, t);
+        let mut short = blank_for(edition, &keys, 1, t);
         write(&keys, &mut short, 0, b"short");
         let mut other_sealing = keys.clone();
         other_sealing.0[0] ^= 1;
-        assert_eq!(read(&other_sealing, &short, 0), (refused(10), [0; 192]));
+        let read_of = |sheet: &[u8]| read(&other_sealing, sheet, 0);
+        assert_eq!(read_of(&short), (refused(number), [0; 192]));
+        put_mark(&mut short, &other_sealing);
+        assert_eq!(read_of(&short), (refused(10), [0; 192]));
     }
 }

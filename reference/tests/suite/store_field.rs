@@ -4,7 +4,7 @@
 use crate::broken::NOWHERE;
 use crate::edition::Edition;
 use crate::random::Random;
-use crate::refusals::{call_for, first, subsets, WAYS};
+use crate::refusals::{call_for, first, write_sets, WAYS};
 use crate::support::*;
 use reference::modes::cbc_decrypt;
 use reference::{Answer, Pointed};
@@ -33,8 +33,8 @@ fn read_whole(keys: &(Vec<u8>, Vec<u8>), sheet: &[u8], slot: usize) -> (Pointed,
 fn a_caption_with_its_zeros_is_stored_as_a_write_stores_it() {
     let mut random = Random::new(150);
     for (edition, t) in kinds() {
-        let keys = pair(&mut random, edition, t);
-        let mut written = edition.blank_sheet(3, t);
+        let keys = unlike(&mut random, t);
+        let mut written = blank_for(edition, &keys, 3, t);
         let mut stored = written.clone();
         for length in 0..=192 {
             let slot = random.below(3);
@@ -53,9 +53,9 @@ fn a_caption_with_its_zeros_is_stored_as_a_write_stores_it() {
 fn the_field_is_sealed_as_it_is() {
     let mut random = Random::new(151);
     for (edition, t) in kinds() {
-        let keys = pair(&mut random, edition, t);
+        let keys = unlike(&mut random, t);
         for length in [0u16, 1, 8, 100, 191, 192] {
-            let mut sheet = edition.blank_sheet(3, t);
+            let mut sheet = blank_for(edition, &keys, 3, t);
             set_w(&mut sheet, 0x01020304);
             let before = sheet.clone();
             let plain: [u8; 192] = random.bytes(192).try_into().unwrap();
@@ -89,7 +89,7 @@ fn the_field_is_sealed_as_it_is() {
 fn it_gives_the_first_refusal_of_every_set() {
     let mut random = Random::new(152);
     for (edition, t) in kinds() {
-        for set in subsets(&[1, 2, 4, 5, 6, 7, 8]) {
+        for set in write_sets(edition) {
             for way in 0..WAYS {
                 let call = call_for(&set, (edition, t), way, &mut random);
                 let length = if set.contains(&7) {
@@ -114,7 +114,7 @@ fn read_of_stored(
     length: usize,
     plain: &[u8; 192],
 ) -> Pointed {
-    let mut sheet = edition.blank_sheet(2, t);
+    let mut sheet = blank_for(edition, keys, 2, t);
     let answer = store(keys, &mut sheet, 1, length as u16, plain);
     assert_eq!(answer, accepted(0));
     let (answer, window) = read_whole(keys, &sheet, 1);
@@ -131,7 +131,7 @@ fn byte_place(place: usize) -> Pointed {
 fn each_byte_set_alone_at_or_past_the_length_is_pointed_to() {
     let mut random = Random::new(153);
     for (edition, t) in kinds() {
-        let keys = pair(&mut random, edition, t);
+        let keys = unlike(&mut random, t);
         for length in [0, 1, 7, 8, 9, 100, 190, 191, 192] {
             let caption = random.bytes(length);
             for place in 0..192 {
@@ -154,7 +154,7 @@ fn each_byte_set_alone_at_or_past_the_length_is_pointed_to() {
 fn every_length_with_all_bytes_set() {
     let mut random = Random::new(154);
     for kind in kinds() {
-        let keys = pair(&mut random, kind.0, kind.1);
+        let keys = unlike(&mut random, kind.1);
         for length in 0..192 {
             let answer = read_of_stored(&keys, kind, length, &[255; 192]);
             assert_eq!(answer, byte_place(length));
@@ -168,7 +168,7 @@ fn every_length_with_all_bytes_set() {
 fn of_several_bytes_the_first_at_or_past_the_length() {
     let mut random = Random::new(155);
     for kind in kinds() {
-        let keys = pair(&mut random, kind.0, kind.1);
+        let keys = unlike(&mut random, kind.1);
         for _ in 0..300 {
             let length = random.below(193);
             let mut plain = [0; 192];
@@ -191,8 +191,8 @@ fn of_several_bytes_the_first_at_or_past_the_length() {
 fn the_check_precedes_the_byte_place() {
     let mut random = Random::new(156);
     for (edition, t) in kinds() {
-        let keys = pair(&mut random, edition, t);
-        let mut sheet = edition.blank_sheet(3, t);
+        let keys = unlike(&mut random, t);
+        let mut sheet = blank_for(edition, &keys, 3, t);
         assert_eq!(store(&keys, &mut sheet, 2, 10, &[7; 192]), accepted(0));
         let expected = pointed(refused(10), (11, 2, 10));
         assert_eq!(read_whole(&keys, &sheet, 2).0, expected);
@@ -209,13 +209,15 @@ fn the_check_precedes_the_byte_place() {
             assert_eq!(read_whole(&keys, &flipped, 2).0, expected, "{bit}");
         }
         // With another checking key the check differs, with another sealing key
-        // it doesn't.
+        // it doesn't, on a sheet that is made their own.
         let mut other = keys.clone();
         other.1[0] ^= 1;
+        put_mark(&mut sheet, &other);
         let (answer, _) = read_whole(&other, &sheet, 2);
         assert_eq!(answer, pointed(refused(10), (10, 2, 0)));
         let mut other = keys.clone();
         other.0[0] ^= 1;
+        put_mark(&mut sheet, &other);
         assert_eq!(read_whole(&other, &sheet, 2).0.rule, 11);
     }
 }
@@ -225,8 +227,8 @@ fn the_check_precedes_the_byte_place() {
 fn the_slot_that_is_read_is_named() {
     let mut random = Random::new(157);
     for edition in Edition::ALL {
-        let keys = pair(&mut random, edition, 4);
-        let mut sheet = edition.blank_sheet(256, 4);
+        let keys = unlike(&mut random, 4);
+        let mut sheet = blank_for(edition, &keys, 256, 4);
         let slots = [0, 1, 127, 128, 254, 255];
         for slot in slots {
             let mut plain = [0; 192];
@@ -250,8 +252,8 @@ fn the_slot_that_is_read_is_named() {
 fn a_slot_with_set_bytes_is_written_and_cleared() {
     let mut random = Random::new(158);
     for (edition, t) in kinds() {
-        let keys = pair(&mut random, edition, t);
-        let mut sheet = edition.blank_sheet(2, t);
+        let keys = unlike(&mut random, t);
+        let mut sheet = blank_for(edition, &keys, 2, t);
         for slot in 0..2 {
             assert_eq!(store(&keys, &mut sheet, slot, 0, &[1; 192]), accepted(0));
         }

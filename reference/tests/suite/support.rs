@@ -89,13 +89,6 @@ pub fn cmac(key: &[u8], message: &[u8]) -> [u8; 8] {
     out
 }
 
-/// Keys that serve a blank sheet of an edition and a class.
-pub fn pair(random: &mut Random, edition: Edition, t: usize) -> (Vec<u8>, Vec<u8>) {
-    match edition {
-        Edition::One | Edition::Two(_) => unlike(random, t),
-    }
-}
-
 /// Two unlike keys of a class.
 pub fn unlike(random: &mut Random, t: usize) -> (Vec<u8>, Vec<u8>) {
     let sealing = random.bytes(2 * t);
@@ -104,6 +97,27 @@ pub fn unlike(random: &mut Random, t: usize) -> (Vec<u8>, Vec<u8>) {
         checking[0] ^= 1;
     }
     (sealing, checking)
+}
+
+/// The key mark by the paper: the block sealed, its CMAC, six bytes of that.
+pub fn mark_of_block(keys: &(Vec<u8>, Vec<u8>), block: [u8; 8]) -> [u8; 6] {
+    let mac = cmac(&keys.1, &encrypt(&keys.0, block));
+    mac[..6].try_into().unwrap()
+}
+
+/// Makes a sheet the keys' own: puts in their key mark where it is of edition 3.
+pub fn put_mark(sheet: &mut [u8], keys: &(Vec<u8>, Vec<u8>)) {
+    if sheet[3] == 3 {
+        let block = [sheet[0], sheet[1], sheet[2], 3, sheet[8], sheet[9], 0, 0];
+        sheet[10..16].copy_from_slice(&mark_of_block(keys, block));
+    }
+}
+
+/// A blank sheet that is the keys' own.
+pub fn blank_for(edition: Edition, keys: &(Vec<u8>, Vec<u8>), n: usize, t: usize) -> Vec<u8> {
+    let mut sheet = edition.blank_sheet(n, t);
+    put_mark(&mut sheet, keys);
+    sheet
 }
 
 pub fn set_w(sheet: &mut [u8], w: u32) {

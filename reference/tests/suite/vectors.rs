@@ -209,14 +209,58 @@ fn cbc() {
     }
 }
 
+/// The serial of the sheets of t in `vectors sheet` and `vectors faults`.
+fn serial_of(t: usize) -> u16 {
+    23040 + t as u16
+}
+
+/// The keys of the sheets of t.
+fn keys_of(t: usize) -> (Vec<u8>, Vec<u8>) {
+    (numbered_key(t, t), numbered_key(t, t + 1))
+}
+
+#[test]
+fn marks() {
+    let text = vectors::marks();
+    let mut lines = lines(&text).into_iter();
+    for t in CLASSES {
+        let keys = keys_of(t);
+        for n in [1, 2, 255, 256usize] {
+            for serial in [0, 1, 256, serial_of(t), 65535] {
+                let line = lines.next().unwrap();
+                assert_eq!(line.len(), 8);
+                let numbers = [t.to_string(), n.to_string(), serial.to_string()];
+                assert_eq!(line[..3], numbers);
+                assert_eq!((hex(line[3]), hex(line[4])), keys);
+                let [n1, n2] = (n as u16).to_be_bytes();
+                let [s1, s2] = serial.to_be_bytes();
+                let block = [n1, n2, t as u8, 3, s1, s2, 0, 0];
+                assert_eq!(hex_block(line[5]), encrypt(&keys.0, block));
+                assert_eq!(hex_block(line[6]), cmac(&keys.1, &hex(line[5])));
+                assert_eq!(line[7], &line[6][..12]);
+                let mut sheet = vec![0; 16 + 208 * n];
+                let answer = reference::blank(&mut sheet, n, t, serial, &keys.0, &keys.1);
+                assert_eq!(answer, accepted(0));
+                assert_eq!(sheet[10..16], hex(line[7]));
+            }
+        }
+    }
+    assert_eq!(lines.next(), None);
+    assert_eq!(text.lines().count(), 60);
+}
+
 /// Lines of `vectors sheet` for one sheet: calls, reads, listing.
 const SHEET_LINES: usize = 10 + 6 + 4;
 
 /// The sheets of `vectors sheet`: first word, edition, t.
 fn listed_sheets() -> impl Iterator<Item = (&'static str, Edition, usize)> {
     CLASSES.into_iter().flat_map(|t| {
-        let blanked = Edition::Two(0x5a00 + t as u16);
-        [("blank", blanked, t), ("old", Edition::One, t)]
+        let [two, three] = [Edition::Two, Edition::Three].map(|edition| edition(serial_of(t)));
+        [
+            ("blank", three, t),
+            ("old", two, t),
+            ("old", Edition::One, t),
+        ]
     })
 }
 
@@ -224,8 +268,9 @@ fn listed_sheets() -> impl Iterator<Item = (&'static str, Edition, usize)> {
 fn sheet() {
     let text = vectors::sheet();
     let lines = lines(&text);
-    assert_eq!(lines.len(), 6 * SHEET_LINES);
-    for (lines, (origin, _, t)) in lines.chunks(SHEET_LINES).zip(listed_sheets()) {
+    assert_eq!(lines.len(), 9 * SHEET_LINES);
+    for (lines, (origin, edition, t)) in lines.chunks(SHEET_LINES).zip(listed_sheets()) {
+        let marked = edition.number() == 3;
         let starts = [
             [origin, "0", "0"],
             ["write", "0", "0"],
@@ -236,7 +281,7 @@ fn sheet() {
             ["write", "6", "0"],
             ["write", "7", "0"],
             ["write", "2", "0"],
-            ["write", "0", "0"],
+            ["write", if marked { "14" } else { "0" }, "0"],
         ];
         let calls = lines[..6].iter().chain(&lines[7..11]);
         for (line, start) in calls.zip(starts) {
@@ -245,7 +290,7 @@ fn sheet() {
         }
         let reads = [
             ["read", "0", "9", "0"],
-            ["read", "0", "10", "0"],
+            ["read", "0", if marked { "9" } else { "10" }, "0"],
             ["read", "1", "0", "3"],
             ["read", "2", "0", "192"],
             ["read", "3", "6", "0"],
@@ -257,8 +302,13 @@ fn sheet() {
             assert_eq!(line[4].len(), 384);
         }
         let bits = (16 * t).to_string();
-        assert_eq!(lines[16], ["slots", "3", "key", &bits, "last", "5"]);
-        assert_eq!(lines[17], ["0", "written", "5", "3"]);
+        let last = if marked { "4" } else { "5" };
+        assert_eq!(lines[16], ["slots", "3", "key", &bits, "last", last]);
+        if marked {
+            assert_eq!(lines[17], ["0", "blank"]);
+        } else {
+            assert_eq!(lines[17], ["0", "written", "5", "3"]);
+        }
         assert_eq!(lines[18], ["1", "written", "4", "3"]);
         assert_eq!(lines[19], ["2", "written", "3", "192"]);
     }
@@ -281,9 +331,9 @@ fn sheet_with_twin_keys_and_near_twins() {
     let text = vectors::sheet();
     let lines = lines(&text);
     for (lines, (_, edition, t)) in lines.chunks(SHEET_LINES).zip(listed_sheets()) {
-        let keys = (numbered_key(t, t), numbered_key(t, t + 1));
+        let keys = keys_of(t);
         let printed_mac = |line: usize| hex_block(lines[line][3]);
-        let blank = edition.blank_sheet(3, t);
+        let blank = blank_for(edition, &keys, 3, t);
         assert_eq!(printed_mac(0), cmac(&keys.1, &blank));
         let mut sheet = cleared_sheet(&keys, blank);
         let before = sheet.clone();
@@ -296,12 +346,20 @@ fn sheet_with_twin_keys_and_near_twins() {
 
         let mut near_twins = twins.clone();
         near_twins.1[0] ^= 1;
-        assert_eq!(write(&near_twins, &mut sheet, 0, b"abc"), accepted(0));
-        assert_ne!(sheet, before);
+        let marked = edition.number() == 3;
+        let number = if marked { 14 } else { 0 };
+        let answer = write(&near_twins, &mut sheet, 0, b"abc");
+        assert_eq!(answer, refused(number));
+        assert_eq!(sheet == before, marked);
         assert_eq!(printed_mac(10), cmac(&keys.1, &sheet));
 
-        assert_eq!(read(&near_twins, &sheet, 0), (accepted(3), shown(b"abc")));
-        assert_eq!(read(&keys, &sheet, 0), (refused(10), [0; 192]));
+        if marked {
+            assert_eq!(read(&near_twins, &sheet, 0), (refused(14), [0; 192]));
+            assert_eq!(read(&keys, &sheet, 0), (refused(9), [0; 192]));
+        } else {
+            assert_eq!(read(&near_twins, &sheet, 0), (accepted(3), shown(b"abc")));
+            assert_eq!(read(&keys, &sheet, 0), (refused(10), [0; 192]));
+        }
         assert_eq!(read(&twins, &sheet, 1), (refused(2), [0; 192]));
         assert_eq!(hex(lines[11][4]), [0; 192]);
         assert_eq!(hex(lines[15][4]), [0; 192]);
@@ -310,14 +368,15 @@ fn sheet_with_twin_keys_and_near_twins() {
 
 /// The sheets of `vectors faults`: edition, t.
 fn faulted_sheets() -> impl Iterator<Item = (Edition, usize)> {
-    let old = CLASSES.map(|t| (Edition::One, t));
-    let blanked = CLASSES.map(|t| (Edition::Two(0x5a00 + t as u16), t));
-    old.into_iter().chain(blanked)
+    let one = CLASSES.map(|t| (Edition::One, t));
+    let two = CLASSES.map(|t| (Edition::Two(serial_of(t)), t));
+    let three = CLASSES.map(|t| (Edition::Three(serial_of(t)), t));
+    one.into_iter().chain(two).chain(three)
 }
 
 /// A sheet of `vectors faults`.
 fn faulted_sheet(keys: &(Vec<u8>, Vec<u8>), edition: Edition, t: usize) -> Vec<u8> {
-    let mut sheet = edition.blank_sheet(3, t);
+    let mut sheet = blank_for(edition, keys, 3, t);
     for (slot, length) in [(0, 5), (1, 17), (2, 192)] {
         let caption = numbered_text(slot, length);
         assert_eq!(write(keys, &mut sheet, slot, &caption), accepted(0));
@@ -341,7 +400,7 @@ fn faults() {
     let text = vectors::faults();
     let mut rest = &lines(&text)[..];
     for (edition, t) in faulted_sheets() {
-        let keys = (numbered_key(t, t), numbered_key(t, t + 1));
+        let keys = keys_of(t);
         let sheet = faulted_sheet(&keys, edition, t);
         let lines;
         (lines, rest) = rest.split_at(1 + 8 * sheet.len());

@@ -7,7 +7,7 @@ use crate::edition::Edition;
 use crate::lent::{Lent, Place};
 use crate::library;
 use crate::sheets::Keys;
-use reference::{Answer, Pointed};
+use reference::{Answer, Pointed, OTHER_KEYS};
 use std::fmt::Debug;
 
 /// The two block calls.
@@ -24,7 +24,7 @@ pub struct Both {
     pub label: String,
     pub calls: u64,
     /// How often each number was answered.
-    pub numbers: [u64; 14],
+    pub numbers: [u64; 15],
     /// How often each rule was pointed at.
     pub rules: [u64; 13],
     pub listings: u64,
@@ -36,7 +36,7 @@ impl Both {
             place,
             label: label.to_string(),
             calls: 0,
-            numbers: [0; 14],
+            numbers: [0; 15],
             rules: [0; 13],
             listings: 0,
         }
@@ -128,29 +128,55 @@ impl Both {
     /// Blanking; `sheet` becomes what both programs leave.
     pub fn blank(
         &mut self,
+        keys: &Keys,
         sheet: &mut [u8],
         slots: usize,
         key_words: usize,
         serial: u16,
     ) -> Answer {
         let length = sheet.len();
-        let call = || format!("blank {slots} {key_words} {serial} on {length} bytes");
+        let call = || format!("blank {slots} {key_words} {serial}, {keys:02x?}, on {length} bytes");
         let mut lent_sheet = self.lend(sheet);
-        let theirs = reference::blank(sheet, slots, key_words, serial);
-        let ours = library::blank(lent_sheet.bytes_mut(), slots, key_words, serial);
+        let (sealing, checking) = (self.lend(&keys.sealing), self.lend(&keys.checking));
+        let theirs = reference::blank(
+            sheet,
+            slots,
+            key_words,
+            serial,
+            &keys.sealing,
+            &keys.checking,
+        );
+        let ours = library::blank(
+            lent_sheet.bytes_mut(),
+            slots,
+            key_words,
+            serial,
+            sealing.bytes(),
+            checking.bytes(),
+        );
         self.hold_answer(call, ours, theirs);
         self.hold_bytes(call, "sheet", &lent_sheet, sheet);
+        self.hold_bytes(call, "sealing key", &sealing, &keys.sealing);
+        self.hold_bytes(call, "checking key", &checking, &keys.checking);
         ours
     }
 
-    /// A blank sheet of an edition: blanked by both programs in place of what
-    /// `sheet` holds if that is the edition they make, else laid out.
-    pub fn begin(&mut self, edition: Edition, sheet: &mut [u8], slots: usize, key_words: usize) {
-        let laid_out = edition.blank_sheet(slots, key_words);
+    /// A blank sheet of an edition that is the keys' own: blanked by both
+    /// programs in place of what `sheet` holds if that is the edition they make,
+    /// else laid out.
+    pub fn begin(
+        &mut self,
+        edition: Edition,
+        keys: &Keys,
+        sheet: &mut [u8],
+        slots: usize,
+        key_words: usize,
+    ) {
+        let laid_out = keys.blank_sheet(edition, slots, key_words);
         match edition {
-            Edition::One => sheet.copy_from_slice(&laid_out),
-            Edition::Two(serial) => {
-                self.blank(sheet, slots, key_words, serial);
+            Edition::One | Edition::Two(_) => sheet.copy_from_slice(&laid_out),
+            Edition::Three(serial) => {
+                self.blank(keys, sheet, slots, key_words, serial);
                 assert!(*sheet == laid_out, "{}: not blank", self.label);
             }
         }
@@ -174,7 +200,7 @@ impl Both {
             slot,
             lent_caption.bytes(),
         );
-        self.hold_pointed(call, ours, theirs);
+        self.hold_pointed(call, ours, theirs, sheet);
         self.hold_bytes(call, "sheet", &lent_sheet, sheet);
         self.hold_bytes(call, "sealing key", &sealing, &keys.sealing);
         self.hold_bytes(call, "checking key", &checking, &keys.checking);
@@ -219,7 +245,7 @@ impl Both {
             slot,
             lent_window.bytes_mut(),
         );
-        self.hold_pointed(call, ours, theirs);
+        self.hold_pointed(call, ours, theirs, sheet);
         self.hold_bytes(call, "window", &lent_window, &true_window);
         self.hold_bytes(call, "sealing key", &sealing, &keys.sealing);
         self.hold_bytes(call, "checking key", &checking, &keys.checking);
@@ -274,7 +300,17 @@ impl Both {
         self.hold(call, ours, theirs, theirs.number);
     }
 
-    fn hold_pointed(&mut self, call: impl Fn() -> String, ours: Pointed, theirs: Pointed) {
+    /// The same of an answer that points; 14 comes from edition 3 alone.
+    fn hold_pointed(
+        &mut self,
+        call: impl Fn() -> String,
+        ours: Pointed,
+        theirs: Pointed,
+        sheet: &[u8],
+    ) {
+        if ours.number == OTHER_KEYS && sheet.get(3) != Some(&3) {
+            panic!("{}: {}: {ours:?}", self.label, call());
+        }
         self.hold(call, ours, theirs, theirs.number);
         self.rules[usize::from(theirs.rule)] += 1;
     }

@@ -74,6 +74,10 @@ mod c {
             slots: usize,
             key_words: usize,
             serial: u16,
+            sealing_key: *const u8,
+            sealing_len: usize,
+            checking_key: *const u8,
+            checking_len: usize,
         ) -> Answer;
         pub fn captions_write(
             sealing_key: *const u8,
@@ -207,8 +211,27 @@ pub fn cmac(key: &[u8], message: &[u8], out: &mut [u8]) -> Answer {
 }
 
 #[inline]
-pub fn blank(sheet: &mut [u8], slots: usize, key_words: usize, serial: u16) -> Answer {
-    answer(unsafe { c::captions_blank(sheet.as_mut_ptr(), sheet.len(), slots, key_words, serial) })
+pub fn blank(
+    sheet: &mut [u8],
+    slots: usize,
+    key_words: usize,
+    serial: u16,
+    sealing_key: &[u8],
+    checking_key: &[u8],
+) -> Answer {
+    answer(unsafe {
+        c::captions_blank(
+            sheet.as_mut_ptr(),
+            sheet.len(),
+            slots,
+            key_words,
+            serial,
+            sealing_key.as_ptr(),
+            sealing_key.len(),
+            checking_key.as_ptr(),
+            checking_key.len(),
+        )
+    })
 }
 
 #[inline]

@@ -29,6 +29,7 @@ pub fn with_some_serial(random: &mut Random, edition: Edition) -> Edition {
     match edition {
         Edition::One => Edition::One,
         Edition::Two(_) => Edition::Two(some_serial(random)),
+        Edition::Three(_) => Edition::Three(some_serial(random)),
     }
 }
 
@@ -43,13 +44,6 @@ pub struct Keys {
 }
 
 impl Keys {
-    /// Keys that serve a blank sheet of an edition and a class.
-    pub fn own(random: &mut Random, edition: Edition, t: usize) -> Keys {
-        match edition {
-            Edition::One | Edition::Two(_) => Keys::unlike(random, t),
-        }
-    }
-
     /// Two unlike keys of t words.
     pub fn unlike(random: &mut Random, t: usize) -> Keys {
         let sealing = random.bytes(2 * t);
@@ -82,6 +76,51 @@ impl Keys {
             checking: self.sealing.clone(),
         }
     }
+
+    /// How many bits both keys have together.
+    pub fn bits(&self) -> usize {
+        8 * (self.sealing.len() + self.checking.len())
+    }
+
+    /// The keys with one bit flipped, counted through the sealing key, then
+    /// through the checking key.
+    pub fn flipped(&self, bit: usize) -> Keys {
+        let mut flipped = self.clone();
+        let (place, mask) = (bit / 8, 1 << (bit % 8));
+        match place.checked_sub(self.sealing.len()) {
+            None => flipped.sealing[place] ^= mask,
+            Some(place) => flipped.checking[place] ^= mask,
+        }
+        flipped
+    }
+
+    /// The second program's key mark of the pair; none where the pair has none.
+    pub fn mark(&self, n: usize, t: usize, serial: u16) -> Option<[u8; 6]> {
+        reference::key_mark(n, t, serial, &self.sealing, &self.checking)
+    }
+
+    /// A blank sheet that is the pair's own, in edition 3 with its key mark.
+    pub fn blank_sheet(&self, edition: Edition, n: usize, t: usize) -> Vec<u8> {
+        let mut sheet = edition.blank_sheet(n, t);
+        self.put_mark(&mut sheet);
+        sheet
+    }
+
+    /// Makes a sheet of edition 3 the pair's own; any other, and one that the
+    /// pair has no mark for, stays as it is.
+    pub fn put_mark(&self, sheet: &mut [u8]) {
+        let [n0, n1, t, 3, _, _, _, _, s0, s1, mark @ ..] = sheet else {
+            return;
+        };
+        let (n, serial) = (
+            u16::from_be_bytes([*n0, *n1]),
+            u16::from_be_bytes([*s0, *s1]),
+        );
+        if let Some(own) = self.mark(usize::from(n), usize::from(*t), serial) {
+            let room = mark.len().min(6);
+            mark[..room].copy_from_slice(&own[..room]);
+        }
+    }
 }
 
 /// The last write number, w.
@@ -108,10 +147,13 @@ pub fn caption_length(random: &mut Random) -> usize {
     }
 }
 
-/// A sheet that meets the layout, each slot blank or written; fields and
-/// checks are random bytes, which the layout doesn't look at.
+/// A sheet that meets the layout, each slot blank or written; fields, checks and
+/// a key mark are random bytes, which the layout doesn't look at.
 pub fn fit_sheet(random: &mut Random, edition: Edition, n: usize, t: usize) -> Vec<u8> {
     let mut sheet = with_some_serial(random, edition).blank_sheet(n, t);
+    if let Edition::Three(_) = edition {
+        sheet[10..16].copy_from_slice(&random.bytes(6));
+    }
     let w = match random.below(8) {
         0 => 0,
         1 => u32::MAX,
@@ -176,23 +218,27 @@ pub fn near_sheet(
         11 => {
             sheet.pop();
         }
-        // Edition 2's zero bytes; in edition 1 bytes of the first mark.
+        // Edition 2's zero bytes and edition 3's key mark; in edition 1 bytes of
+        // the first mark.
         12 => sheet[10 + random.below(6)] ^= some_byte,
-        13 => sheet[3] = other_edition(edition).number(),
+        13 => sheet[3] = random.pick(&other_editions(edition)).number(),
         14 => {
-            sheet[3] = other_edition(edition).number();
-            sheet.resize(other_edition(edition).sheet_length(n), 0);
+            let other = random.pick(&other_editions(edition));
+            sheet[3] = other.number();
+            sheet.resize(other.sheet_length(n), 0);
         }
         _ => sheet.push(random.pick(&[0, some_byte])),
     }
     sheet
 }
 
-/// The edition that a sheet is relabelled as.
-pub fn other_edition(edition: Edition) -> Edition {
+/// The editions that a sheet is relabelled as.
+pub fn other_editions(edition: Edition) -> [Edition; 2] {
+    let [one, two, three] = Edition::ALL;
     match edition {
-        Edition::One => Edition::BLANKED,
-        Edition::Two(_) => Edition::One,
+        Edition::One => [two, three],
+        Edition::Two(_) => [one, three],
+        Edition::Three(_) => [one, two],
     }
 }
 

@@ -128,10 +128,12 @@ fn opened(key: &[u8], plain_start: Block, field: &[u8]) -> Vec<u8> {
     cbc_decrypt(&|block| decrypt(register, block), start, blocks).concat()
 }
 
-/// Edition 1, and edition 2 with serials about every edge; every class.
+/// Edition 1, and editions 2 and 3 with serials about every edge; every class.
 fn kinds_by_serial() -> Vec<(Edition, usize)> {
-    let two = Edition::SERIALS.into_iter().map(Edition::Two);
-    let editions = std::iter::once(Edition::One).chain(two);
+    let with_serial = [Edition::Two, Edition::Three]
+        .into_iter()
+        .flat_map(|edition| Edition::SERIALS.map(edition));
+    let editions = std::iter::once(Edition::One).chain(with_serial);
     editions
         .flat_map(|edition| CLASSES.map(|t| (edition, t)))
         .collect()
@@ -141,11 +143,11 @@ fn kinds_by_serial() -> Vec<(Edition, usize)> {
 /// own block and CMAC calls; the second program's CBC opens them again.
 #[test]
 fn a_write_stores_the_field_and_the_check_of_the_papers() {
-    const WRITES: usize = 400;
+    const WRITES: usize = 220;
     let mut random = Random::of_part(303);
     for (edition, t) in kinds_by_serial() {
-        let mut sheet = edition.blank_sheet(5, t);
-        let keys = Keys::own(&mut random, edition, t);
+        let keys = Keys::unlike(&mut random, t);
+        let mut sheet = keys.blank_sheet(edition, 5, t);
         for number in 1..=WRITES as u32 {
             let slot = random.below(5);
             let length = random.below(FIELD + 1);

@@ -37,8 +37,9 @@ pub fn all() -> Vec<Sheet> {
         sheets.written();
         sheets.digits();
         sheets.header_faults();
-        if let Edition::Two(_) = edition {
+        if edition != Edition::One {
             sheets.serials();
+            sheets.last_six_bytes();
         }
         sheets.relabelled();
         sheets.length_faults();
@@ -87,8 +88,8 @@ impl Sheets {
         for round in 0..60 {
             let t = CLASSES[round % 3];
             let slots = 1 + self.random.below(20);
-            let keys = self.keys(t);
-            let mut sheet = self.edition.blank_sheet(slots, t);
+            let keys = [self.random.bytes(2 * t), self.random.bytes(2 * t)];
+            let mut sheet = self.blank_for(&keys, slots, t);
             for _ in 0..self.random.below(30) {
                 let slot = self.random.below(slots);
                 if self.random.below(5) == 0 {
@@ -96,7 +97,8 @@ impl Sheets {
                 } else {
                     let length = self.random.below(FIELD + 1);
                     let caption = self.random.bytes(length);
-                    reference::write(&keys[0], &keys[1], &mut sheet, slot, &caption);
+                    let answer = reference::write(&keys[0], &keys[1], &mut sheet, slot, &caption);
+                    assert_eq!(answer.number, 0);
                 }
             }
             let what = format!("written and cleared, round {round}, {slots} slots, t = {t}");
@@ -104,11 +106,14 @@ impl Sheets {
         }
     }
 
-    /// Keys that serve a blank sheet of a class.
-    fn keys(&mut self, t: usize) -> [Vec<u8>; 2] {
-        match self.edition {
-            Edition::One | Edition::Two(_) => [self.random.bytes(2 * t), self.random.bytes(2 * t)],
+    /// A blank sheet that a pair of keys serves, in edition 3 with its key mark.
+    fn blank_for(&self, keys: &[Vec<u8>; 2], slots: usize, t: usize) -> Vec<u8> {
+        let mut sheet = self.edition.blank_sheet(slots, t);
+        if let Edition::Three(serial) = self.edition {
+            let mark = reference::key_mark(slots, t, serial, &keys[0], &keys[1]);
+            sheet[10..16].copy_from_slice(&mark.expect("the pair has a mark"));
         }
+        sheet
     }
 
     /// Numbers of every count of digits. A listing doesn't test the check.
@@ -176,45 +181,57 @@ impl Sheets {
         for edition in (0..=255).filter(|edition| *edition != own) {
             let mut sheet = self.marked(1, 9);
             sheet[3] = edition;
-            self.add("unfit: edition", format!("edition {edition}"), sheet);
+            // Edition 2's zero bytes are fit for a key mark.
+            let group = match (own, edition) {
+                (2, 3) => "fit: relabelled",
+                _ => "unfit: edition",
+            };
+            self.add(group, format!("edition {edition}"), sheet);
         }
     }
 
-    /// What edition 2's header has more: any serial, and six zero bytes.
+    /// Any serial is fit.
     fn serials(&mut self) {
         for serial in Edition::SERIALS {
             let mut sheet = self.marked(2, 9);
             sheet[8..10].copy_from_slice(&serial.to_be_bytes());
             self.add("fit: serials", format!("serial {serial}"), sheet);
         }
+    }
+
+    /// The bytes after the serial are zero in edition 2, and any in edition 3.
+    fn last_six_bytes(&mut self) {
+        let group = match self.edition {
+            Edition::Three(_) => "fit: key marks",
+            _ => "unfit: zero bytes",
+        };
         for place in 10..16 {
             for value in [1, 128, 255] {
                 let mut sheet = self.marked(2, 9);
                 sheet[place] = value;
                 let what = format!("byte {place} is {value}");
-                self.add("unfit: zero bytes", what, sheet);
+                self.add(group, what, sheet);
             }
         }
     }
 
-    /// The other edition's number and length: with bytes put on or taken off in
+    /// Another edition's number and length: with bytes put on or taken off in
     /// the header, where the marks stay whole, or at the end.
     fn relabelled(&mut self) {
-        let header = self.edition.header();
-        let other = match self.edition {
-            Edition::One => Edition::BLANKED,
-            Edition::Two(_) => Edition::One,
-        };
-        for slots in [1, 3, 256] {
-            for mut sheet in [self.edition.blank_sheet(slots, 4), self.marked(slots, 9)] {
-                sheet[3] = other.number();
-                let mut whole = sheet[..8].to_vec();
-                whole.resize(other.header(), 0);
-                whole.extend(&sheet[header..]);
-                let what = format!("{slots} slots, as {other:?}");
-                self.add("fit: relabelled", what.clone(), whole);
-                sheet.resize(other.sheet_length(slots), 0);
-                self.add("either: relabelled", what, sheet);
+        let (own, header) = (self.edition.number(), self.edition.header());
+        let others = Edition::ALL.into_iter();
+        for other in others.filter(|other| other.number() != own) {
+            for slots in [1, 3, 256] {
+                for mut sheet in [self.edition.blank_sheet(slots, 4), self.marked(slots, 9)] {
+                    sheet[3] = other.number();
+                    let mut whole = sheet[..8].to_vec();
+                    whole.resize(other.header(), 0);
+                    whole.extend(&sheet[header..]);
+                    let what = format!("{slots} slots, as {other:?}");
+                    self.add("fit: relabelled", what.clone(), whole);
+                    sheet.resize(other.sheet_length(slots), 0);
+                    self.add("either: relabelled", what, sheet);
+                }
             }
         }
     }

@@ -1,7 +1,7 @@
 -- `layout::header_rule` meets its contract.
 use borrow.Author.Needs.{needs}
 use borrow.Author.Tests.{not-true, not-false}
-use Rattle.layout.proofs.Header.{class-byte, header-byte, two-long, rule-other, rule-two, rule-one}
+use Rattle.layout.proofs.Header.{class-byte, header-byte, two-long, rule-other, rule-two, rule-three, rule-one}
 use Rattle.layout.proofs.header_rule.Statement.{statement}
 use Rattle.layout.proofs.header_rule.Tie as tie
 
@@ -18,4 +18,5 @@ header-rule-spec =
     (λ c. search (two-long, needs))
     (λ c κs. search needs)
     (λ c. search (rule-two, not-false))
+    (λ c. search (rule-three, not-false))
     (λ c. search (rule-one, not-false)))

@@ -5,4 +5,5 @@ use Rattle.layout.proofs.header_size.Statement.{statement}
 use Rattle.layout.proofs.header_size.Tie as tie
 
 pub header-size-spec : {M : Type 1} → statement M
-header-size-spec = tie.close (tie.spec (λ c κs. search needs) (λ c. search (size-two, needs)) (λ c. search (size-one, needs)))
+header-size-spec =
+    tie.close (tie.spec (λ c κs. search needs) (λ c κs. search needs) (λ c. search (size-two, needs)) (λ c. search (size-one, needs)))

@@ -13,6 +13,8 @@ put-blank-spec =
     (tie.spec
     (λ c κs. search needs)
     (λ c. search needs)
+    (λ c κs. unfold sheetSize in search needs)
+    (λ c. search needs)
     (λ c. unfold sheetSize in search needs)
     (λ c. search needs)
     (λ c. unfold sheetSize in simp length-set (omega arith))
@@ -23,5 +25,5 @@ put-blank-spec =
     (λ c. unfold sheetSize in simp length-set (omega arith))
     (λ c. search needs)
     (λ c. unfold sheetSize in simp length-set (omega arith))
-    (λ c. search needs)
-    (λ c. search blank-stored))
+    (λ c. simp length-set (search needs))
+    (λ c. search (blank-stored, needs)))

@@ -51,11 +51,17 @@ returns-11 : tie.Need-returns-11
 unfolding answerPointed answerNumber answerLength answerPoint
 returns-11 c = said answerPointed _ _ _ (c .before .before .a3 .given .1) (c .change-pointed .ensures)
 
+returns-12 : tie.Need-returns-12
+unfolding answerPointed answerNumber answerLength answerPoint
+returns-12 c = said answerPointed _ _ _ (c .before .enum-told9 .given .1) (c .at9 .ensures)
+
 pub answer-pointed-spec : {M : Type 1} → statement M
 answer-pointed-spec =
     tie.close
     (tie.spec
     (λ c. search needs)
+    (λ c. search needs)
+    (λ c κs. search needs)
     (λ c. search needs)
     (λ c κs. search needs)
     (λ c. search needs)
@@ -86,4 +92,5 @@ answer-pointed-spec =
     returns-8
     returns-9
     returns-10
-    returns-11)
+    returns-11
+    returns-12)

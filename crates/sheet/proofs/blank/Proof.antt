@@ -12,6 +12,7 @@ blank-spec =
     (λ c. search needs)
     (λ c. search (blank-refused, needs))
     (λ c. search needs)
+    (λ c κs. search needs)
     (λ c κs. (search (blank-size, needs), (search (blank-count, needs), search (blank-class, needs))))
     (λ c. search needs)
     (λ c. search (blank-made, needs)))

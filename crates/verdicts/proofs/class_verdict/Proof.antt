@@ -1,5 +1,4 @@
-use borrow.Author.Needs.{needs}
-use Rattle.verdicts.proofs.Verdicts.{fit-header, fit-class, class-no, class-yes}
+use Rattle.verdicts.proofs.Verdicts.{fit-header, fit-class, class-found}
 use Rattle.verdicts.proofs.class_verdict.Statement.{statement}
 use Rattle.verdicts.proofs.class_verdict.Tie as tie
 
@@ -9,5 +8,4 @@ class-verdict-spec =
     (tie.spec
     (λ c κs. search fit-header)
     (λ c κs. search fit-class)
-    (λ c. search class-yes)
-    (λ c. search class-no))
+    (λ c. search class-found))

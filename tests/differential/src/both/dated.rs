@@ -64,7 +64,7 @@ impl Both {
             day,
             lent_window.bytes_mut(),
         );
-        self.hold_pointed(call, ours, theirs);
+        self.hold_pointed(call, ours, theirs, sheet);
         self.hold_bytes(call, "window", &lent_window, &true_window);
         self.hold_bytes(call, "sealing key", &sealing, &keys.sealing);
         self.hold_bytes(call, "checking key", &checking, &keys.checking);

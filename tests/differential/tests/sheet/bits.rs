@@ -13,8 +13,8 @@ fn every_bit(t: usize) {
     let mut both = both("bits");
     let (mut bits, mut unfit) = (0, 0);
     for edition in Edition::ALL {
-        let keys = Keys::own(&mut random, edition, t);
-        let mut sheet = edition.blank_sheet(3, t);
+        let keys = Keys::unlike(&mut random, t);
+        let mut sheet = keys.blank_sheet(edition, 3, t);
         both.write(&keys, &mut sheet, 1, b"");
         both.write(&keys, &mut sheet, 2, &random.bytes(FIELD));
         for bit in 0..8 * sheet.len() {

@@ -1,11 +1,32 @@
-//! Blanking.
+//! Blanking: counts, key words, serials and buffers on both sides of each edge,
+//! and its refusals in every combination (document 02, request 7).
 
 use crate::both;
 use crate::edges::done;
 use differential::edition::Edition;
 use differential::random::Random;
-use differential::sheets::some_serial;
-use reference::{WRONG_KEY, WRONG_SPAN};
+use differential::sheets::{some_serial, Keys, CLASSES};
+use reference::{OTHER_KEY_CLASS, TWIN_KEYS, WRONG_KEY, WRONG_SPAN};
+
+/// 208 times it is 208 in 64 bits.
+const WRAPPING: usize = (1 << 60) + 1;
+
+/// The number that blanking has by the papers: 1 for keys or t, 2, 3, 5.
+fn refusal(keys: &Keys, n: usize, t: usize, length: usize) -> u8 {
+    let bytes = keys.sealing.len();
+    let right_keys = matches!(bytes, 8 | 12 | 16) && keys.checking.len() == bytes;
+    if !right_keys || !CLASSES.contains(&t) {
+        WRONG_KEY
+    } else if keys.sealing == keys.checking {
+        TWIN_KEYS
+    } else if !(1..=256).contains(&n) || length != 16 + 208 * n {
+        WRONG_SPAN
+    } else if bytes != 2 * t {
+        OTHER_KEY_CLASS
+    } else {
+        0
+    }
+}
 
 /// n = 1 is 224 bytes, n = 256 is 53264; t is 4, 6 or 8; every serial is taken.
 #[test]
@@ -14,7 +35,6 @@ fn blanking() {
     assert_eq!([1, 256].map(|n| edition.sheet_length(n)), [224, 53_264]);
     let mut random = Random::of_part(504);
     let mut both = both("blanking");
-    let wrapping = (1 << 60) + 1; // 208 times it is 208 in 64 bits
     let counts = [
         0,
         1,
@@ -26,7 +46,7 @@ fn blanking() {
         258,
         65_536,
         65_537,
-        wrapping,
+        WRAPPING,
         usize::MAX,
     ];
     let classes = || (0..=20).chain([256 + 4, 65_536 + 6, (1 << 32) + 8, usize::MAX]);
@@ -51,20 +71,85 @@ fn blanking() {
         ] {
             for t in classes() {
                 let mut sheet = random.bytes(length);
-                let number = match (t, n) {
-                    (4 | 6 | 8, 1..=256) if length == edition.sheet_length(n) => 0,
-                    (4 | 6 | 8, _) => WRONG_SPAN,
-                    _ => WRONG_KEY,
-                };
+                let class = if CLASSES.contains(&t) { t } else { 6 };
+                let keys = Keys::unlike(&mut random, class);
                 let serial = some_serial(&mut random);
-                let answer = both.blank(&mut sheet, n, t, serial);
+                let number = refusal(&keys, n, t, length);
+                let answer = both.blank(&keys, &mut sheet, n, t, serial);
                 assert_eq!(answer.number, number, "{n} {t} {length}");
-                assert!(number != 0 || sheet == Edition::Two(serial).blank_sheet(n, t));
+                let made = || keys.blank_sheet(Edition::Three(serial), n, t);
+                assert!(number != 0 || sheet == made());
             }
         }
     }
+    both.hold_met([0, 1, 3]);
     done(
         &both,
         "blanking with counts, key words and buffers on both sides",
     );
+}
+
+/// Pairs for a class: fit ones, then ones with a key of a wrong length, of unlike
+/// lengths, twins and pairs of another class, alone and together.
+fn pairs(random: &mut Random, t: usize) -> Vec<Keys> {
+    let bytes = 2 * t;
+    let mut pairs = vec![
+        Keys::unlike(random, t),
+        Keys::unlike(random, t).swapped(),
+        Keys::of_lengths(random, bytes - 1, bytes),
+        Keys::of_lengths(random, bytes + 1, bytes),
+        Keys::of_lengths(random, bytes, bytes - 1),
+        Keys::of_lengths(random, bytes, bytes + 1),
+        Keys::of_lengths(random, 0, bytes),
+        Keys::of_lengths(random, bytes, 0),
+        Keys::of_lengths(random, 10, 10),
+        Keys::of_lengths(random, bytes + 256, bytes + 256),
+        Keys::twins(random, bytes),
+        Keys::twins(random, 0),
+        Keys::twins(random, bytes + 1),
+    ];
+    for other in CLASSES.into_iter().filter(|other| *other != t) {
+        pairs.push(Keys::unlike(random, other));
+        pairs.push(Keys::twins(random, 2 * other));
+        pairs.push(Keys::of_lengths(random, bytes, 2 * other));
+        pairs.push(Keys::of_lengths(random, 2 * other, bytes));
+    }
+    pairs
+}
+
+/// Every pair with every t, n and buffer; a refusal changes no byte.
+#[test]
+fn every_combination_of_refusals() {
+    let mut random = Random::of_part(509);
+    let mut both = both("refusals of blanking");
+    let edition = Edition::BLANKED;
+    for t in CLASSES {
+        let pairs = pairs(&mut random, t);
+        let classes = CLASSES
+            .into_iter()
+            .chain([0, 5, 2 * t, 256 + t, usize::MAX]);
+        for key_words in classes {
+            for n in [1, 2, 0, 256, 257, 65_537, WRAPPING, usize::MAX] {
+                let right = edition.sheet_length(if n <= 257 { n } else { 1 });
+                for length in [right, right - 1, right + 1, right - 8, 0] {
+                    for keys in &pairs {
+                        let before = random.bytes(length);
+                        let mut sheet = before.clone();
+                        let serial = some_serial(&mut random);
+                        let number = refusal(keys, n, key_words, length);
+                        let answer = both.blank(keys, &mut sheet, n, key_words, serial);
+                        let call = (n, key_words, length);
+                        assert_eq!((answer.number, answer.length), (number, 0), "{call:?}");
+                        let after = match number {
+                            0 => keys.blank_sheet(Edition::Three(serial), n, key_words),
+                            _ => before,
+                        };
+                        assert!(sheet == after, "{call:?}, {keys:02x?}");
+                    }
+                }
+            }
+        }
+    }
+    both.hold_met([0, 1, 2, 3, 5]);
+    done(&both, "blanking's refusals in every combination");
 }

@@ -15,8 +15,10 @@ fn room(edition: Edition, length: usize) -> usize {
     length.saturating_sub(edition.header()) / 208
 }
 
-/// Each call on a buffer, at the slots of such a sheet of an edition.
-pub fn each_call(both: &mut Both, random: &mut Random, edition: Edition, sheet: &[u8]) {
+/// Each call on a buffer, at the slots of such a sheet of an edition, with keys
+/// that are most often a sheet's own.
+pub fn each_call(both: &mut Both, random: &mut Random, edition: Edition, buffer: &[u8]) {
+    let mut sheet = buffer.to_vec();
     let n = room(edition, sheet.len());
     let t = random.pick(&CLASSES);
     let class = match sheet.get(2) {
@@ -26,19 +28,22 @@ pub fn each_call(both: &mut Both, random: &mut Random, edition: Edition, sheet: 
         _ => t,
     };
     let keys = Keys::unlike(random, class);
-    both.list(sheet);
+    if !random.once_in(4) {
+        keys.put_mark(&mut sheet);
+    }
+    both.list(&sheet);
     for slot in [0, n.saturating_sub(1), n] {
         let length = random.below(FIELD + 2);
         let caption = random.bytes(length);
-        both.read(&keys, sheet, slot, FIELD);
+        both.read(&keys, &sheet, slot, FIELD);
         let terms = some_terms(random, n.max(1));
         let day = day_near(random, &terms);
-        both.dated_read(&keys, sheet, &terms, slot, day, FIELD);
-        both.write(&keys, &mut sheet.to_vec(), slot, &caption);
-        both.clear(&mut sheet.to_vec(), slot);
+        both.dated_read(&keys, &sheet, &terms, slot, day, FIELD);
+        both.write(&keys, &mut sheet.clone(), slot, &caption);
+        both.clear(&mut sheet.clone(), slot);
     }
     for slots in [n, n + 1] {
-        both.blank(&mut sheet.to_vec(), slots, t, some_serial(random));
+        both.blank(&keys, &mut sheet.clone(), slots, t, some_serial(random));
     }
 }
 
@@ -52,9 +57,10 @@ fn with_header(random: &mut Random, edition: Edition, length: usize) -> Vec<u8> 
     for (place, byte) in buffer.iter_mut().zip(header) {
         *place = byte;
     }
-    // Edition 2's zero bytes.
-    for byte in buffer.iter_mut().take(edition.header()).skip(10) {
-        *byte = 0;
+    if let Edition::Two(_) = edition {
+        for byte in buffer.iter_mut().take(edition.header()).skip(10) {
+            *byte = 0;
+        }
     }
     buffer
 }
@@ -153,8 +159,8 @@ fn a_fault_in_each_slot() {
     let mut random = Random::of_part(543);
     let mut both = both("a fault in each slot");
     for edition in Edition::ALL {
-        let keys = Keys::own(&mut random, edition, 4);
-        let sheet = edition.blank_sheet(256, 4);
+        let keys = Keys::unlike(&mut random, 4);
+        let sheet = keys.blank_sheet(edition, 256, 4);
         for slot in 0..256 {
             let (mark, field) = (edition.mark_place(slot), edition.field_place(256, slot));
             for byte in [mark.start, mark.end - 1, field.start, field.end - 1] {

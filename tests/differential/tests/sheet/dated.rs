@@ -15,13 +15,13 @@ use differential::terms::{day_near, fit_terms, some_terms, FAR_DAYS};
 use reference::{ALTERED, BLANK, NOT_ON_SHOW, NO_SUCH_DATE, UNFIT_SHEET, WRONG_SPAN};
 
 /// What a dated read may answer.
-pub const NUMBERS: [usize; 11] = [0, 1, 2, 3, 4, 5, 6, 9, 10, 11, 12];
+pub const NUMBERS: [usize; 12] = [0, 1, 2, 3, 4, 5, 6, 9, 10, 11, 12, 14];
 
 /// A sheet of n slots: the last but one blank, the last but two altered where
 /// there are such, each other one written.
 fn mixed_sheet(random: &mut Random, edition: Edition, n: usize, t: usize) -> (Keys, Vec<u8>) {
-    let keys = Keys::own(random, edition, t);
-    let mut sheet = edition.blank_sheet(n, t);
+    let keys = Keys::unlike(random, t);
+    let mut sheet = keys.blank_sheet(edition, n, t);
     for slot in (0..n).filter(|slot| slot + 2 != n) {
         let length = caption_length(random);
         let caption = random.bytes(length);

@@ -32,7 +32,7 @@ fn key_bytes() {
                     (8 | 12 | 16, _) => 0,
                     _ => WRONG_KEY,
                 };
-                let mut sheet = edition.blank_sheet(2, t);
+                let mut sheet = keys.blank_sheet(edition, 2, t);
                 let answer = both.write(&keys, &mut sheet, 1, b"caption");
                 assert_eq!(answer.number, number, "{sealing} {checking} {t}");
                 let (answer, _) = both.read(&keys, &sheet, 1, FIELD);
@@ -56,6 +56,7 @@ fn keys_that_differ_in_one_bit() {
             assert_eq!(answer.number, TWIN_KEYS);
             assert_eq!(both.read(&keys, &sheet, 0, FIELD).0.number, TWIN_KEYS);
             keys.checking[bit / 8] ^= 1 << (bit % 8);
+            keys.put_mark(&mut sheet);
             assert_eq!(both.write(&keys, &mut sheet, 0, b"no twins").number, 0);
             assert_eq!(both.read(&keys, &sheet, 0, FIELD).0.length, 8);
         }
@@ -69,8 +70,8 @@ fn caption_bytes() {
     let mut random = Random::of_part(501);
     let mut both = both("caption bytes");
     for (edition, t) in kinds() {
-        let keys = Keys::own(&mut random, edition, t);
-        let mut sheet = edition.blank_sheet(2, t);
+        let keys = Keys::unlike(&mut random, t);
+        let mut sheet = keys.blank_sheet(edition, 2, t);
         for length in (0..=400).chain([192 + 256, 65_536, 65_536 + 192]) {
             let caption = random.bytes(length);
             let answer = both.write(&keys, &mut sheet, 1, &caption);
@@ -91,8 +92,8 @@ fn slots() {
     let mut both = both("slots");
     for (edition, t) in kinds() {
         for n in [1, 2, 3, 16, 255, 256] {
-            let keys = Keys::own(&mut random, edition, t);
-            let mut sheet = edition.blank_sheet(n, t);
+            let keys = Keys::unlike(&mut random, t);
+            let mut sheet = keys.blank_sheet(edition, n, t);
             let far = FAR_SLOTS.into_iter().filter(|slot| *slot > n);
             for slot in [0, n / 2, n - 1, n, n + 1].into_iter().chain(far) {
                 let number = if slot < n { 0 } else { NO_SUCH_SLOT };
@@ -112,8 +113,8 @@ fn last_write_numbers() {
     let mut random = Random::of_part(503);
     let mut both = both("last write numbers");
     for (edition, t) in kinds() {
-        let keys = Keys::own(&mut random, edition, t);
-        let mut sheet = edition.blank_sheet(2, t);
+        let keys = Keys::unlike(&mut random, t);
+        let mut sheet = keys.blank_sheet(edition, 2, t);
         set_last_number(&mut sheet, 4294967294);
         assert_eq!(both.write(&keys, &mut sheet, 1, b"the last").number, 0);
         assert_eq!(last_number(&sheet), 4294967295);
@@ -126,7 +127,7 @@ fn last_write_numbers() {
         assert_eq!(last_number(&sheet), 4294967295);
         // Carries between the bytes of w.
         for w in [0xff, 0xffff, 0x00ff_ffff, 0x0100_00ff, 0x7fff_ffff] {
-            let mut sheet = edition.blank_sheet(1, t);
+            let mut sheet = keys.blank_sheet(edition, 1, t);
             set_last_number(&mut sheet, w);
             assert_eq!(both.write(&keys, &mut sheet, 0, b"carried").number, 0);
             assert_eq!(last_number(&sheet), w + 1);
@@ -141,8 +142,8 @@ fn windows() {
     let mut random = Random::of_part(505);
     let mut both = both("windows");
     for (edition, t) in kinds() {
-        let keys = Keys::own(&mut random, edition, t);
-        let mut sheet = edition.blank_sheet(2, t);
+        let keys = Keys::unlike(&mut random, t);
+        let mut sheet = keys.blank_sheet(edition, 2, t);
         both.write(&keys, &mut sheet, 0, &random.bytes(100));
         for length in (0..=400).chain([192 + 256, 192 + 65_536]) {
             for slot in 0..2 {
@@ -163,9 +164,9 @@ fn sheets_of_1_and_256_slots() {
     let mut both = both("sheets of 1 and 256 slots");
     for (edition, t) in kinds() {
         for n in [1, 256] {
-            let keys = Keys::own(&mut random, edition, t);
+            let keys = Keys::unlike(&mut random, t);
             let mut sheet = vec![0xa5; edition.sheet_length(n)];
-            both.begin(edition, &mut sheet, n, t);
+            both.begin(edition, &keys, &mut sheet, n, t);
             for slot in 0..n {
                 let length = random.below(FIELD + 1);
                 let caption = random.bytes(length);
@@ -193,9 +194,9 @@ fn zeros_past_the_length() {
     let mut random = Random::of_part(507);
     let mut both = both("zeros past the length");
     for (edition, t) in kinds() {
-        let keys = Keys::own(&mut random, edition, t);
+        let keys = Keys::unlike(&mut random, t);
         for nonzero in [0, 1, 8, 9, 100, 191, 192] {
-            let mut sheet = edition.blank_sheet(2, t);
+            let mut sheet = keys.blank_sheet(edition, 2, t);
             let caption: Vec<u8> = (0..nonzero).map(|i| i as u8 | 1).collect();
             both.write(&keys, &mut sheet, 1, &caption);
             for length in 0..=192 {

@@ -33,9 +33,9 @@ fn blocks_and_messages(both: &mut Both, random: &mut Random) {
 fn written_sheets(both: &mut Both, random: &mut Random) {
     for (edition, t) in kinds() {
         for n in [1, 2, 3, 19, 20, 256] {
-            let keys = Keys::own(random, edition, t);
+            let keys = Keys::unlike(random, t);
             let mut sheet = random.bytes(edition.sheet_length(n));
-            both.begin(edition, &mut sheet, n, t);
+            both.begin(edition, &keys, &mut sheet, n, t);
             for slot in (0..n).take(20).chain([n - 1]) {
                 let length = caption_length(random);
                 let caption = random.bytes(length);

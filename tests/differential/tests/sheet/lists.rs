@@ -1,4 +1,5 @@
-//! Random lists of up to 40 calls on one sheet, with the model beside them.
+//! Random lists of up to 40 calls on one sheet, with the model beside them:
+//! strangers' writes among them (document 02, request 7), of which it isn't told.
 
 use crate::{both, FAR_SLOTS};
 use differential::both::Both;
@@ -11,10 +12,10 @@ use differential::sheets::{
 };
 use differential::term_sheet::{belongs, on_show, LAST_DAY};
 use differential::terms::{day_near, some_terms};
-use reference::{Answer, Book, NOT_ON_SHOW};
+use reference::{key_refusal, Answer, Book, NOT_ON_SHOW};
 
-/// Lists for each edition and class; all six make more than 20,000.
-const LISTS: usize = 3_400;
+/// Lists for each edition and class; all nine make more than 20,000.
+const LISTS: usize = 2_300;
 
 /// A sheet, the keys that belong to it, and the model while it applies.
 struct State {
@@ -23,18 +24,23 @@ struct State {
     /// The pair of keys for each class, and which class the sheet has.
     pairs: [Keys; 3],
     class: usize,
-    /// None before the first accepted blanking, and after a write by another
-    /// pair of the right class, of which the model says nothing.
-    book: Option<Book>,
-    /// Whether other pairs of the right class may write in this list.
-    strangers: bool,
+    /// The sheet as it was blanked, and its model. None before the first blank
+    /// sheet, and after a write by another pair of the right class on edition 1
+    /// or 2, of which the model says nothing.
+    begun: Option<(Vec<u8>, Book)>,
+    /// One pair in so many is another's.
+    others_once_in: usize,
+    /// Whether other pairs of the right class may write on editions 1 and 2 too.
+    over_old: bool,
 }
 
-/// What the model was asked.
+/// What the model was asked, and the strangers of whom it wasn't told, by the
+/// edition and the number that they met.
 #[derive(Default)]
 struct Asked {
     calls: u64,
     pages: u64,
+    strangers: [[u64; 15]; 4],
 }
 
 fn list(both: &mut Both, random: &mut Random, (edition, t): (Edition, usize), asked: &mut Asked) {
@@ -46,16 +52,18 @@ fn list(both: &mut Both, random: &mut Random, (edition, t): (Edition, usize), as
     let mut state = State {
         sheet: random.bytes(edition.sheet_length(slots)),
         slots,
-        pairs: CLASSES.map(|t| Keys::own(random, edition, t)),
+        pairs: CLASSES.map(|t| Keys::unlike(random, t)),
         class: t / 2 - 2,
-        book: None,
-        strangers: random.once_in(4),
+        begun: None,
+        others_once_in: random.pick(&[3, 10]),
+        over_old: random.once_in(4),
     };
     let calls = random.below(41);
     for call in 0..calls {
         if call == 0 && !random.once_in(20) {
-            both.begin(edition, &mut state.sheet, slots, t);
-            state.begun(slots, t);
+            let keys = &state.pairs[state.class];
+            both.begin(edition, keys, &mut state.sheet, slots, t);
+            state.begin(slots, t);
         } else {
             state.call(both, random, asked);
         }
@@ -68,7 +76,7 @@ fn list(both: &mut Both, random: &mut Random, (edition, t): (Edition, usize), as
 
 /// A sheet that is nearly worn: as if that many writes and clears had been.
 fn wear(random: &mut Random, state: &mut State) {
-    if let Some(book) = &mut state.book {
+    if let Some((_, book)) = &mut state.begun {
         book.count = u32::MAX - random.below(6) as u32;
         set_last_number(&mut state.sheet, book.count);
     }
@@ -76,9 +84,13 @@ fn wear(random: &mut Random, state: &mut State) {
 
 impl State {
     /// The sheet is a blank one: it has its class, and a new model.
-    fn begun(&mut self, slots: usize, t: usize) {
+    fn begin(&mut self, slots: usize, t: usize) {
         self.class = t / 2 - 2;
-        self.book = Some(Book::new(slots));
+        self.begun = Some((self.sheet.clone(), Book::new(slots)));
+    }
+
+    fn book(&self) -> Option<&Book> {
+        self.begun.as_ref().map(|(_, book)| book)
     }
 
     fn call(&mut self, both: &mut Both, random: &mut Random, asked: &mut Asked) {
@@ -99,30 +111,21 @@ impl State {
         }
     }
 
-    /// The sheet's pair most often; else one that is wrong, or a stranger's.
+    /// The sheet's pair most often, else another: none at all for a sheet, twins,
+    /// of another class, or of the right one. True for the sheet's pair.
     fn some_keys(&self, random: &mut Random) -> (Keys, bool) {
         let own = &self.pairs[self.class];
-        let length = own.sealing.len();
-        let wrong = match random.below(if self.strangers { 40 } else { 30 }) {
-            0 => Keys::of_lengths(random, length, length + 1),
-            1 => Keys::of_lengths(random, length - 1, length),
-            2 => {
-                let lengths = [random.below(21), random.below(21)];
-                Keys::of_lengths(random, lengths[0], lengths[1])
-            }
-            3 => Keys::twins(random, length),
-            4 => Keys {
-                sealing: own.sealing.clone(),
-                checking: own.sealing.clone(),
-            },
-            5 => self.pairs[(self.class + 1) % 3].clone(),
-            6 => self.pairs[(self.class + 2) % 3].clone(),
-            30 => Keys::unlike(random, length / 2),
-            31 => own.swapped(),
-            32 => one_bit_off(random, own),
-            _ => return (own.clone(), true),
+        if !random.once_in(self.others_once_in) {
+            return (own.clone(), true);
+        }
+        let over = self.over_old || self.sheet[3] == 3;
+        let other = match random.below(if over { 4 } else { 3 }) {
+            0 => wrong_keys(random, own),
+            1 => twins(random, own),
+            2 => self.pairs[(self.class + 1 + random.below(2)) % 3].clone(),
+            _ => another_pair(random, own),
         };
-        (wrong, false)
+        (other, false)
     }
 
     fn write(&mut self, both: &mut Both, random: &mut Random, asked: &mut Asked) {
@@ -136,36 +139,59 @@ impl State {
             _ => random.bytes(length),
         };
         let (keys, own) = self.some_keys(random);
-        let answer = both.write(&keys, &mut self.sheet, slot, &caption);
-        match &mut self.book {
-            Some(book) if own => {
-                let number = book.write(slot, &caption);
-                asked.calls += 1;
-                assert_eq!(
-                    (answer.number, answer.length),
-                    (number, 0),
-                    "{}",
-                    both.label
-                );
-                assert_eq!(last_number(&self.sheet), book.count, "{}", both.label);
-            }
-            _ if answer.number == 0 => self.book = None,
-            _ => {}
+        if !own {
+            return self.write_as_other(both, &keys, slot, &caption, asked);
         }
+        let answer = both.write(&keys, &mut self.sheet, slot, &caption);
+        if let Some((_, book)) = &mut self.begun {
+            let number = book.write(slot, &caption);
+            asked.calls += 1;
+            let given = (answer.number, answer.length);
+            assert_eq!(given, (number, 0), "{}", both.label);
+            assert_eq!(last_number(&self.sheet), book.count, "{}", both.label);
+        }
+    }
+
+    /// A stranger's write answers what the stranger's keys meet with the sheet as
+    /// it was blanked, changes no byte, and is left out of the model. The model
+    /// ends where the keys meet nothing, on edition 1 or 2.
+    fn write_as_other(
+        &mut self,
+        both: &mut Both,
+        keys: &Keys,
+        slot: usize,
+        caption: &[u8],
+        asked: &mut Asked,
+    ) {
+        let before = self.sheet.clone();
+        let answer = both.write(keys, &mut self.sheet, slot, caption);
+        let Some((blanked, _)) = &self.begun else {
+            return;
+        };
+        let refusal = key_refusal(&keys.sealing, &keys.checking, blanked);
+        if refusal == 0 {
+            assert!(blanked[3] < 3, "{}: a mark by chance", both.label);
+            self.begun = None;
+            return;
+        }
+        assert_eq!(
+            (answer.number, answer.length),
+            (refusal, 0),
+            "{}",
+            both.label
+        );
+        assert!(self.sheet == before, "{}: changed", both.label);
+        asked.strangers[usize::from(blanked[3])][usize::from(refusal)] += 1;
     }
 
     fn clear(&mut self, both: &mut Both, random: &mut Random, asked: &mut Asked) {
         let slot = self.some_slot(random);
         let answer = both.clear(&mut self.sheet, slot);
-        if let Some(book) = &mut self.book {
+        if let Some((_, book)) = &mut self.begun {
             let number = book.clear(slot);
             asked.calls += 1;
-            assert_eq!(
-                (answer.number, answer.length),
-                (number, 0),
-                "{}",
-                both.label
-            );
+            let given = (answer.number, answer.length);
+            assert_eq!(given, (number, 0), "{}", both.label);
             assert_eq!(last_number(&self.sheet), book.count, "{}", both.label);
         }
     }
@@ -188,7 +214,7 @@ impl State {
     fn read_page(&self, both: &mut Both, slot: usize, asked: &mut Asked) {
         let keys = &self.pairs[self.class];
         let (answer, window) = both.read(keys, &self.sheet, slot, FIELD);
-        let page = self.book.as_ref().and_then(|book| book.reading(slot));
+        let page = self.book().and_then(|book| book.reading(slot));
         if let Some((true_answer, true_window)) = page {
             asked.pages += 1;
             assert_eq!(answer.answer(), true_answer, "{}: read {slot}", both.label);
@@ -204,7 +230,7 @@ impl State {
         let terms = some_terms(random, self.slots);
         let day = day_near(random, &terms);
         let (answer, window) = both.dated_read(&keys, &self.sheet, &terms, slot, day, FIELD);
-        let page = self.book.as_ref().and_then(|book| book.reading(slot));
+        let page = self.book().and_then(|book| book.reading(slot));
         if let Some((mut true_answer, mut true_window)) = page {
             if !own || !belongs(&terms, self.slots) || day > LAST_DAY {
                 return;
@@ -223,14 +249,21 @@ impl State {
         }
     }
 
+    /// The reads at the end; of the header only w has changed.
     fn read_all(&self, both: &mut Both, asked: &mut Asked) {
+        if let Some((blanked, book)) = &self.begun {
+            let header = if blanked[3] == 1 { 8 } else { 16 };
+            let mut expected = blanked[..header].to_vec();
+            set_last_number(&mut expected, book.count);
+            assert_eq!(self.sheet[..header], expected, "{}", both.label);
+        }
         for slot in 0..=self.slots {
             self.read_page(both, slot, asked);
         }
         both.list(&self.sheet);
     }
 
-    /// A blanking, most often with something that doesn't fit.
+    /// A blanking, most often with something that doesn't fit, seldom the keys.
     fn blank_somehow(&mut self, both: &mut Both, random: &mut Random) {
         let slots = match random.below(3) {
             0 => random.pick(&[0, self.slots + 1, 257, 65_536 + self.slots]),
@@ -240,23 +273,59 @@ impl State {
             0 => random.below(20),
             _ => random.pick(&CLASSES),
         };
+        let own = &self.pairs[(t / 2).clamp(2, 4) - 2];
+        let keys = match random.below(8) {
+            0 => wrong_keys(random, own),
+            1 => twins(random, own),
+            2 => self.pairs[random.below(3)].clone(),
+            _ => own.clone(),
+        };
         let serial = some_serial(random);
-        if both.blank(&mut self.sheet, slots, t, serial).number == 0 {
-            self.begun(slots, t);
+        let answer = both.blank(&keys, &mut self.sheet, slots, t, serial);
+        if answer.number == 0 {
+            self.begin(slots, t);
         }
     }
 }
 
-fn one_bit_off(random: &mut Random, keys: &Keys) -> Keys {
-    let mut off = keys.clone();
-    let bit = random.below(8 * off.sealing.len());
-    let key = if random.once_in(2) {
-        &mut off.sealing
-    } else {
-        &mut off.checking
+/// A pair that meets 1.
+fn wrong_keys(random: &mut Random, own: &Keys) -> Keys {
+    let length = own.sealing.len();
+    let mut wrong = own.clone();
+    match random.below(5) {
+        0 => wrong.sealing.truncate(random.below(8)),
+        1 => wrong.checking.truncate(random.below(8)),
+        2 => wrong.checking.extend([0; 4]),
+        3 => wrong = Keys::of_lengths(random, length + 1, length + 1),
+        _ => {
+            let lengths = [random.below(21), random.below(21) | 1];
+            wrong = Keys::of_lengths(random, lengths[0], lengths[1]);
+        }
+    }
+    wrong
+}
+
+/// A pair that meets 2: one of the sheet's own keys twice, or another twice.
+fn twins(random: &mut Random, own: &Keys) -> Keys {
+    let length = random.pick(&CLASSES) * 2;
+    let key = match random.below(3) {
+        0 => own.sealing.clone(),
+        1 => own.checking.clone(),
+        _ => random.bytes(length),
     };
-    key[bit / 8] ^= 1 << (bit % 8);
-    off
+    Keys {
+        sealing: key.clone(),
+        checking: key,
+    }
+}
+
+/// Another pair of the same class: exchanged, one bit off, or unlike altogether.
+fn another_pair(random: &mut Random, own: &Keys) -> Keys {
+    match random.below(3) {
+        0 => own.swapped(),
+        1 => own.flipped(random.below(own.bits())),
+        _ => Keys::unlike(random, own.sealing.len() / 2),
+    }
 }
 
 fn lists(t: usize) {
@@ -273,14 +342,26 @@ fn lists(t: usize) {
             list(&mut both, &mut random, (edition, t), &mut asked);
         }
     }
-    both.hold_met(0..=12);
+    both.hold_met((0..=12).chain([14]));
+    for (edition, met) in asked.strangers.iter().enumerate().skip(1) {
+        let numbers: Vec<usize> = (0..15).filter(|number| met[*number] > 100).collect();
+        let expected: &[usize] = if edition == 3 {
+            &[1, 2, 5, 14]
+        } else {
+            &[1, 2, 5]
+        };
+        assert_eq!(numbers, expected, "strangers on edition {edition}: {met:?}");
+    }
     let (calls, met) = (both.calls, both.numbers_met());
+    let strangers: u64 = asked.strangers.iter().flatten().sum();
+    let on_third = asked.strangers[3][14];
     let Asked {
         calls: answers,
         pages,
+        ..
     } = asked;
     report(&format!(
-        "sheet: {LISTS} lists of calls for each edition, t = {t}, seed {:#x}: {calls} calls: {met}; the model: {answers} calls, {pages} pages",
+        "sheet: {LISTS} lists of calls for each edition, t = {t}, seed {:#x}: {calls} calls: {met}; the model: {answers} calls, {pages} pages; {strangers} strangers' writes, {on_third} of them 14",
         seed()
     ));
 }

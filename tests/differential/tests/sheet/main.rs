@@ -9,6 +9,7 @@ mod edges;
 mod faults;
 mod fences;
 mod lists;
+mod marks;
 mod pointing;
 mod serials;
 

@@ -1,14 +1,14 @@
-//! Edition 2 beside edition 1 (document 02, request 3): serials, the six zero
-//! bytes, every value of byte 3, and sheets relabelled as the other edition.
+//! The editions beside each other (document 02, requests 3 and 7): serials, the
+//! six zero bytes, every value of byte 3, and sheets relabelled as another edition.
 
 use crate::both;
 use crate::edges::done;
 use differential::both::Both;
 use differential::edition::Edition;
 use differential::random::Random;
-use differential::sheets::{kinds, other_edition, set_last_number, Keys, CLASSES, FIELD};
+use differential::sheets::{kinds, other_editions, set_last_number, Keys, CLASSES, FIELD};
 use differential::term_sheet::{term_sheet, ALWAYS};
-use reference::UNFIT_SHEET;
+use reference::{OTHER_KEYS, UNFIT_SHEET};
 use std::collections::BTreeSet;
 
 const SLOTS: usize = 3;
@@ -22,7 +22,7 @@ fn write_captions(both: &mut Both, keys: &Keys, sheet: &mut [u8]) {
 }
 
 fn written_sheet(both: &mut Both, keys: &Keys, edition: Edition, t: usize) -> Vec<u8> {
-    let mut sheet = edition.blank_sheet(SLOTS, t);
+    let mut sheet = keys.blank_sheet(edition, SLOTS, t);
     write_captions(both, keys, &mut sheet);
     sheet
 }
@@ -54,17 +54,18 @@ fn hold_fit(both: &mut Both, keys: &Keys, sheet: &[u8], fits: bool) {
 fn every_serial_is_stored() {
     let mut random = Random::of_part(570);
     let mut both = both("every serial");
+    let keys = Keys::unlike(&mut random, 4);
     let mut sheet = random.bytes(Edition::BLANKED.sheet_length(1));
     for serial in 0..=u16::MAX {
-        both.begin(Edition::Two(serial), &mut sheet, 1, 4);
+        both.begin(Edition::Three(serial), &keys, &mut sheet, 1, 4);
     }
     assert_eq!(both.numbers[0], 65_536);
     done(&both, "blanking with every serial");
 }
 
-/// What the request is for: the same keys, write number, slot and caption after
+/// What request 3 is for: the same keys, write number, slot and caption after
 /// each blanking, in the bytes of the sheet before. With serial 0 they are
-/// sealed as in edition 1.
+/// sealed as in edition 1, and with any serial as in edition 2.
 #[test]
 fn unlike_serials_seal_from_unlike_starts() {
     let mut random = Random::of_part(571);
@@ -75,10 +76,12 @@ fn unlike_serials_seal_from_unlike_starts() {
         let mut sheet = random.bytes(Edition::BLANKED.sheet_length(SLOTS));
         let mut first_blocks = BTreeSet::new();
         for serial in Edition::SERIALS {
-            let edition = Edition::Two(serial);
-            both.begin(edition, &mut sheet, SLOTS, t);
+            let edition = Edition::Three(serial);
+            both.begin(edition, &keys, &mut sheet, SLOTS, t);
             write_captions(&mut both, &keys, &mut sheet);
             assert_eq!(sheet[16..] == old[8..], serial == 0);
+            let second = written_sheet(&mut both, &keys, Edition::Two(serial), t);
+            assert_eq!(sheet[16..], second[16..]);
             let field = &sheet[edition.field_place(SLOTS, 2)];
             first_blocks.insert(field[..8].to_vec());
         }
@@ -91,8 +94,8 @@ fn unlike_serials_seal_from_unlike_starts() {
 fn the_six_zero_bytes() {
     let mut random = Random::of_part(572);
     let mut both = both("the six zero bytes");
-    let keys = Keys::own(&mut random, Edition::BLANKED, 6);
-    let sheet = written_sheet(&mut both, &keys, Edition::BLANKED, 6);
+    let keys = Keys::unlike(&mut random, 6);
+    let sheet = written_sheet(&mut both, &keys, Edition::Two(0xa53c), 6);
     for place in 10..16 {
         for value in 0..=255 {
             let mut near = sheet.clone();
@@ -103,32 +106,33 @@ fn the_six_zero_bytes() {
     done(&both, "the six zero bytes at every value");
 }
 
-/// Fit with its edition's number and length alone.
+/// Fit with its edition's number and length alone, but that any sheet of edition
+/// 2 is one of edition 3 too, with a key mark of zeros.
 #[test]
 fn every_value_of_byte_3() {
     let mut random = Random::of_part(573);
     let mut both = both("byte 3");
     for (edition, t) in kinds() {
-        let keys = Keys::own(&mut random, edition, t);
+        let keys = Keys::unlike(&mut random, t);
         let sheet = written_sheet(&mut both, &keys, edition, t);
         for length in Edition::ALL.map(|edition| edition.sheet_length(SLOTS)) {
             for value in 0..=255 {
                 let mut near = sheet.clone();
                 near[3] = value;
                 near.resize(length, 0);
-                let fits = near == sheet;
+                let as_third = edition.number() == 2 && value == 3 && length == sheet.len();
+                let fits = near == sheet || as_third;
                 both.label = format!("byte 3 of {edition:?} is {value}, {length} bytes");
                 hold_fit(&mut both, &keys, &near, fits);
             }
         }
     }
-    done(&both, "byte 3 at every value, at either edition's length");
+    done(&both, "byte 3 at every value, at each edition's length");
 }
 
-/// The sheet with the other edition's number and length: bytes put on or taken
+/// The sheet with another edition's number and length: bytes put on or taken
 /// off at its end, or in its header, where marks and fields stay whole.
-fn relabelled(edition: Edition, sheet: &[u8]) -> [Vec<u8>; 2] {
-    let other = other_edition(edition);
+fn relabelled(edition: Edition, other: Edition, sheet: &[u8]) -> [Vec<u8>; 2] {
     let mut sheet = sheet.to_vec();
     sheet[3] = other.number();
     let mut in_header = sheet[..8].to_vec();
@@ -138,35 +142,65 @@ fn relabelled(edition: Edition, sheet: &[u8]) -> [Vec<u8>; 2] {
     [sheet, in_header]
 }
 
+/// Whether a blank sheet relabelled at its end is fit: zeros of a blank slot
+/// become header, or the header a blank slot's or, by a serial up to w, a written
+/// one's. A key mark is neither zero bytes nor a mark.
+fn fits_at_end(edition: Edition, other: Edition, w: u32) -> bool {
+    match (edition, other) {
+        (Edition::Three(_), _) => false,
+        (Edition::Two(serial), Edition::One) => serial == 0 || w == u32::MAX,
+        _ => true,
+    }
+}
+
 #[test]
-fn sheets_relabelled_as_the_other_edition() {
+fn sheets_relabelled_as_another_edition() {
     let mut random = Random::of_part(574);
     let mut both = both("relabelled sheets");
-    for t in CLASSES {
-        for edition in [Edition::One, Edition::Two(0), Edition::BLANKED] {
-            let keys = Keys::own(&mut random, edition, t);
-            let no_serial = edition.start_tail() == [0, 0];
-            for w in [2, u32::MAX] {
-                // At its end: the zeros of a blank slot become header, or the
-                // header a blank slot's or, by a serial up to w, a written one's.
-                let mut blank = edition.blank_sheet(SLOTS, t);
-                set_last_number(&mut blank, w);
-                let [at_end, in_header] = relabelled(edition, &blank);
-                hold_fit(&mut both, &keys, &at_end, no_serial || w == u32::MAX);
-                hold_fit(&mut both, &keys, &in_header, true);
-
-                let mut written = written_sheet(&mut both, &keys, edition, t);
-                set_last_number(&mut written, w);
-                let [at_end, in_header] = relabelled(edition, &written);
-                hold_fit(&mut both, &keys, &at_end, false);
-                hold_fit(&mut both, &keys, &in_header, true);
-                let reads_alike = [0, 1, 2].map(|slot| {
-                    let read = both.read(&keys, &written, slot, FIELD);
-                    both.read(&keys, &in_header, slot, FIELD) == read
-                });
-                assert_eq!(reads_alike, [no_serial, true, no_serial]);
+    let editions = Edition::ALL.into_iter();
+    for edition in editions.chain([Edition::Two(0), Edition::Three(0)]) {
+        for other in other_editions(edition) {
+            for t in CLASSES {
+                for w in [2, u32::MAX] {
+                    let keys = Keys::unlike(&mut random, t);
+                    let mut blank = keys.blank_sheet(edition, SLOTS, t);
+                    set_last_number(&mut blank, w);
+                    let [at_end, in_header] = relabelled(edition, other, &blank);
+                    hold_fit(&mut both, &keys, &at_end, fits_at_end(edition, other, w));
+                    hold_fit(&mut both, &keys, &in_header, true);
+                    relabelled_and_written(&mut both, &keys, (edition, other), t, w);
+                }
             }
         }
     }
-    done(&both, "sheets relabelled as the other edition");
+    done(&both, "sheets relabelled as another edition");
+}
+
+/// A written sheet relabelled at its end is fit from edition 2 to 3 alone.
+/// Relabelled in its header it has serial 0 and is, as edition 3, nobody's; with
+/// the pair's key mark a read shows what it showed, if that was serial 0 too.
+fn relabelled_and_written(
+    both: &mut Both,
+    keys: &Keys,
+    (edition, other): (Edition, Edition),
+    t: usize,
+    w: u32,
+) {
+    let mut written = written_sheet(both, keys, edition, t);
+    set_last_number(&mut written, w);
+    let [at_end, mut in_header] = relabelled(edition, other, &written);
+    let as_third = (edition.number(), other.number()) == (2, 3);
+    hold_fit(both, keys, &at_end, as_third);
+    hold_fit(both, keys, &in_header, true);
+    for slot in 0..=SLOTS {
+        let (answer, _) = both.read(keys, &in_header, slot, FIELD);
+        assert_eq!(answer.number == OTHER_KEYS, other.number() == 3);
+    }
+    keys.put_mark(&mut in_header);
+    let reads_alike = [0, 1, 2].map(|slot| {
+        let read = both.read(keys, &written, slot, FIELD);
+        both.read(keys, &in_header, slot, FIELD) == read
+    });
+    let no_serial = edition.start_tail() == [0, 0];
+    assert_eq!(reads_alike, [no_serial, true, no_serial]);
 }
