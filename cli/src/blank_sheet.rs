@@ -1,8 +1,11 @@
 //! A sheet of blank slots, by which the library also says which slot counts and
 //! which keys there are.
 
+use crate::exchange::caption_in;
+use crate::header;
 use crate::keys::Keys;
-use captions::{sheet_len, Refusal, SLOTS};
+use crate::listing::Listing;
+use captions::{sheet_len, Refusal, HEADER, SLOTS};
 
 /// A blank sheet that a pair of keys serves. Bits that make no whole 16-bit words
 /// become 0 words, which the library refuses like any other number that isn't 4,
@@ -23,6 +26,48 @@ pub fn blank_sheet(
     let Keys { sealing, checking } = keys;
     captions::blank(&mut sheet, slots, key_words, serial, sealing, checking)?;
     Ok(sheet)
+}
+
+/// Whether a sheet that is blanked with this serial under these keys would seal
+/// from starts that the old one there has used: it has the same serial, and
+/// nothing shows that it belongs to other keys.
+pub fn repeats_starts(old: &[u8], serial: u16, keys: &Keys) -> bool {
+    // Without a serial a sheet seals as one with serial 0 does.
+    if header::serial(old).unwrap_or(0) != serial {
+        return false;
+    }
+    let [high, low, words, edition, ..] = *old else {
+        return false;
+    };
+    if 2 * usize::from(words) != keys.sealing.len() {
+        return false;
+    }
+    let slots = usize::from(u16::from_be_bytes([high, low]));
+    match edition {
+        1 | 2 => serves_some_slot(old, keys),
+        // Its key mark tells, also where the rest of it is torn off or its edition
+        // was changed.
+        _ => match blank_sheet(slots, 16 * usize::from(words), serial, keys) {
+            Ok(same) => {
+                let end = HEADER.min(old.len());
+                old.get(8..end) == same.get(8..end)
+            }
+            Err(_) => false,
+        },
+    }
+}
+
+/// Whether a pair of keys opens a slot of a sheet that has no key mark. Where no
+/// slot is written, or the sheet is torn, that can't be told, and it may.
+fn serves_some_slot(sheet: &[u8], keys: &Keys) -> bool {
+    let Some(listing) = Listing::of_sheet(sheet) else {
+        return true;
+    };
+    let written: Vec<usize> = (0..listing.slots)
+        .filter(|slot| listing.write_number(*slot) > 0)
+        .collect();
+    let opens = |slot: &usize| caption_in(sheet, keys, *slot).is_ok();
+    written.is_empty() || written.iter().any(opens)
 }
 
 /// Two unlike keys of 64 bits, for sheets by which the library is asked and which

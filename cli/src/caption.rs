@@ -37,6 +37,14 @@ impl<'a> Source<'a> {
         matches!(self, Source::File(path) if input::is_standard(path))
     }
 
+    /// The file that the caption comes from; an empty name where none does.
+    pub fn file(&self) -> &Path {
+        match self {
+            Source::File(path) => path,
+            _ => Path::new(""),
+        }
+    }
+
     /// The caption's bytes. Where there are none, they were lost on their way
     /// unless an empty caption is asked for.
     pub fn bytes(&self) -> Result<Vec<u8>, Failure> {

@@ -1,17 +1,18 @@
 //! What each command does.
 
-use crate::blank_sheet::{blank_sheet, key_bytes};
+use crate::blank_sheet::{blank_sheet, key_bytes, repeats_starts};
 use crate::caption::{self, Source};
 use crate::date;
-use crate::exchange::{self, Import};
+use crate::exchange::{self, caption_in, Import};
 use crate::failure::Failure;
 use crate::hex;
 use crate::input;
 use crate::keys::{key_of_file, Keys};
+use crate::kind::Kind;
 use crate::listing::{self, Verified};
 use crate::sheet_file;
 use crate::shown::shown;
-use crate::terminal::{hint, print};
+use crate::terminal::{hint, print, warn};
 use crate::terms::{self, Term};
 use crate::words::{self, wrong_for, Request, Words};
 use captions::{Change, Refusal, BLOCK, FIELD};
@@ -70,23 +71,50 @@ fn run_command(name: &str, words: &Words) -> Result<(), Failure> {
 fn blank(file: &Path, slots: &OsStr, bits: &OsStr, words: &Words) -> Result<(), Failure> {
     let (slots, bits) = (number("SLOTS", slots)?, number("BITS", bits)?);
     let (serial, wait) = (serial(words.operand(3))?, wait(words)?);
-    let keys = Keys::of_file(Path::new(words.operand(4)))?;
+    let keys = Path::new(words.operand(4));
+    not_another(file, &[("KEYS", keys)])?;
+    let keys = Keys::of_file(keys)?;
     let sheet = blank_sheet(slots, bits, serial, &keys)?;
-    sheet_file::create(file, wait, &sheet, words.has("--force"))
+    let force = words.has("--force");
+    sheet_file::create(file, wait, &sheet, force, Kind::Sheet, |old| {
+        let repeats = !words.has("--force-serial") && repeats_starts(old, serial, &keys);
+        repeats.then(|| {
+            format!(
+                "the sheet there has serial {serial} already, under these keys: captions would be \
+                 sealed from the same starts as before; take another serial, or --force-serial"
+            )
+        })
+    })
 }
 
 fn write(file: &Path, slot: &OsStr, keys: &Path, words: &Words) -> Result<(), Failure> {
     let (slot, wait) = (number("SLOT", slot)?, wait(words)?);
     let source = Source::of(words)?;
     one_from_standard_input(&[input::is_standard(keys), source.is_standard_input()])?;
+    not_another(file, &[("KEYS", keys), ("NAME", source.file())])?;
     let keys = Keys::of_file(keys)?;
     let caption = source.bytes()?;
+    let mut is_there = false;
     sheet_file::change(file, wait, |sheet| {
-        captions::write(&keys.sealing, &keys.checking, sheet, slot, &caption)?;
+        is_there = !words.has("--again") && holds(sheet, &keys, slot, &caption);
+        if !is_there {
+            captions::write(&keys.sealing, &keys.checking, sheet, slot, &caption)?;
+        }
         Ok(())
     })?;
+    if is_there {
+        warn(&format!(
+            "unchanged: slot {slot} holds that caption; --again writes it all the same"
+        ));
+    }
     caption::hint_at_line_feed(&caption);
     Ok(())
+}
+
+/// Whether a slot holds a caption already. What can't be read is for the write to
+/// refuse.
+fn holds(sheet: &[u8], keys: &Keys, slot: usize, caption: &[u8]) -> bool {
+    matches!(caption_in(sheet, keys, slot), Ok(Some(there)) if there == caption)
 }
 
 fn read(file: &Path, slot: &OsStr, keys: &Path, words: &Words) -> Result<(), Failure> {
@@ -150,11 +178,13 @@ fn import(file: &Path, keys: &Path, words: &Words) -> Result<(), Failure> {
     let table = Path::new(words.value("--file").unwrap_or(OsStr::new("-")));
     let standard = [file, keys, table].map(input::is_standard);
     one_from_standard_input(&standard)?;
+    not_another(file, &[("KEYS", keys), ("NAME", table)])?;
     Import {
         file,
         keys,
         table,
         may_clear: words.has("--clear"),
+        force: words.has("--force"),
         dry_run: words.has("--dry-run"),
         wait: wait(words)?,
     }
@@ -177,7 +207,8 @@ fn terms(file: &Path, words: &Words) -> Result<(), Failure> {
 
 fn terms_blank(file: &Path, slots: &OsStr, words: &Words) -> Result<(), Failure> {
     let sheet = terms::blank(number("SLOTS", slots)?)?;
-    sheet_file::create(file, wait(words)?, &sheet, words.has("--force"))
+    let (wait, force) = (wait(words)?, words.has("--force"));
+    sheet_file::create(file, wait, &sheet, force, Kind::Terms, |_| None)
 }
 
 fn terms_set(file: &Path, slot: &OsStr, words: &Words) -> Result<(), Failure> {
@@ -253,6 +284,20 @@ fn wait(words: &Words) -> Result<Duration, Failure> {
         None => WAIT,
     };
     Ok(Duration::from_secs(seconds as u64))
+}
+
+/// The file that is to be replaced isn't one that is read, by whatever names.
+fn not_another(file: &Path, others: &[(&str, &Path)]) -> Result<(), Failure> {
+    let this = input::identity(file);
+    match others
+        .iter()
+        .find(|(_, other)| input::identity(other) == this)
+    {
+        Some((name, _)) if this.is_some() => {
+            Err(Failure::Usage(format!("FILE and {name} are the same file")))
+        }
+        _ => Ok(()),
+    }
 }
 
 /// Standard input holds one thing.

@@ -8,10 +8,12 @@ use std::path::Path;
 
 /// Exit statuses beside those of the refusals, which are 1 to 14 and may come
 /// to 16. Most are the numbers that sysexits.h gives to a wrong command line,
-/// wrong data, missing input, failed input or output and "try again later".
+/// wrong data, missing input, output that can't be made, failed input or output
+/// and "try again later".
 const WRONG_USAGE: u8 = 64;
 const WRONG_DATA: u8 = 65;
 const NO_INPUT: u8 = 66;
+const NO_OUTPUT: u8 = 73;
 const FAILED_FILE: u8 = 74;
 const LOCKED: u8 = 75;
 /// Past the last number of sysexits.h, so that it is nobody's failure.
@@ -20,15 +22,18 @@ const NOT_FLUSHED: u8 = 79;
 pub enum Failure {
     /// The library refused.
     Refused(Refusal),
-    /// The library refused what stands at a place, which the text names.
-    RefusedAt(String, Refusal),
+    /// Lines of a table can't be imported, each for the reason that its text
+    /// gives; with the refusal, if that is why.
+    Lines(Vec<String>, Option<Refusal>),
     /// The command line is wrong; the text is to be shown whole.
     Usage(String),
     /// A file of keys or a table isn't in its form.
     Data(String),
-    /// There is no caption or no table.
+    /// What is to be read isn't there, may not be read or is empty.
     NoInput(String),
-    /// A file, standard input or standard output failed.
+    /// A file can't be made, or what is there isn't replaced.
+    NoOutput(String),
+    /// A file, standard input or standard output failed midway.
     File(String),
     /// The folder stayed locked.
     Locked(String),
@@ -37,13 +42,23 @@ pub enum Failure {
 }
 
 impl Failure {
-    /// A file that failed, by its name.
+    /// A file that failed midway, by its name.
     pub fn of_file(path: &Path, error: impl Display) -> Failure {
         Failure::File(format!("{}: {error}", shown(path)))
     }
 
+    /// A file that can't be read, by its name.
+    pub fn no_input(path: &Path, error: impl Display) -> Failure {
+        Failure::NoInput(format!("{}: {error}", shown(path)))
+    }
+
+    /// A file that can't be made or replaced, by its name.
+    pub fn no_output(path: &Path, error: impl Display) -> Failure {
+        Failure::NoOutput(format!("{}: {error}", shown(path)))
+    }
+
     pub fn of_standard_input(error: io::Error) -> Failure {
-        Failure::File(format!("standard input: {error}"))
+        Failure::NoInput(format!("standard input: {error}"))
     }
 
     pub fn of_standard_output(error: io::Error) -> Failure {
@@ -53,10 +68,11 @@ impl Failure {
     /// The exit status.
     pub fn status(&self) -> u8 {
         match self {
-            Failure::Refused(refusal) | Failure::RefusedAt(_, refusal) => refusal.number(),
+            Failure::Refused(refusal) | Failure::Lines(_, Some(refusal)) => refusal.number(),
             Failure::Usage(_) => WRONG_USAGE,
-            Failure::Data(_) => WRONG_DATA,
+            Failure::Data(_) | Failure::Lines(_, None) => WRONG_DATA,
             Failure::NoInput(_) => NO_INPUT,
+            Failure::NoOutput(_) => NO_OUTPUT,
             Failure::File(_) => FAILED_FILE,
             Failure::Locked(_) => LOCKED,
             Failure::NotFlushed(_) => NOT_FLUSHED,
@@ -72,13 +88,14 @@ impl Failure {
                 true => format!("captions: {refusal}\n{}", last_line(refusal)),
                 false => last_line(refusal),
             },
-            Failure::RefusedAt(place, refusal) => match points(refusal) {
-                true => format!("captions: {place}: {refusal}\n{}", last_line(refusal)),
-                false => format!("captions: {place}\n{}", last_line(refusal)),
-            },
+            Failure::Lines(lines, refusal) => {
+                let lines = lines.iter().map(|line| format!("captions: {line}\n"));
+                lines.collect::<String>() + &refusal.as_ref().map(last_line).unwrap_or_default()
+            }
             Failure::Usage(text)
             | Failure::Data(text)
             | Failure::NoInput(text)
+            | Failure::NoOutput(text)
             | Failure::File(text)
             | Failure::Locked(text)
             | Failure::NotFlushed(text) => format!("captions: {text}\n"),

@@ -36,9 +36,13 @@ pub const PAGES: [Page; 14] = [
     Page {
         name: "blank",
         operands: &["FILE", "SLOTS", "BITS", "SERIAL", "KEYS"],
-        options: &[("--force", "blank a FILE that exists"), WAIT],
+        options: &[
+            ("--force", "blank a FILE that exists, if it is a sheet"),
+            ("--force-serial", "take the serial that the sheet there has"),
+            WAIT,
+        ],
         instead: None,
-        usage: "FILE SLOTS BITS SERIAL KEYS [--force]\n[--wait SECONDS]",
+        usage: "FILE SLOTS BITS SERIAL KEYS\n[--force] [--force-serial] [--wait SECONDS]",
         summary: "make a sheet of blank slots",
         about: "\
 Makes FILE a sheet of SLOTS blank slots, 1 to 256, for the pair in KEYS, keys of
@@ -58,10 +62,12 @@ is blanked for the next venue, and new keys when all are used. The command can't
 know which you have used, so it never chooses one. With serial 0 a sheet seals
 as sheets without a serial do: keys that served one of those have used 0.
 
-A FILE that exists is left alone (exit status 74) unless --force is given: all
-its captions would be lost.
+A FILE that exists is left alone (exit status 73) unless --force is given: all
+its captions would be lost. Even then it is replaced only if it is empty or a
+sheet, torn or not, by its first bytes. With the serial and the keys of the
+sheet there it isn't replaced either, unless --force-serial is given too.
 ",
-        statuses: &[1, 2, 3, 5, 65, 75, 79],
+        statuses: &[1, 2, 3, 5, 65, 66, 73, 75, 79],
     },
     Page {
         name: "write",
@@ -70,10 +76,11 @@ its captions would be lost.
             ("--text TEXT", "the caption is TEXT"),
             ("--file NAME", "the caption is what the file NAME holds"),
             ("--empty", "the caption has no bytes"),
+            ("--again", "write a caption that the slot holds already"),
             WAIT,
         ],
         instead: None,
-        usage: "FILE SLOT KEYS\n[--text TEXT | --file NAME | --empty] [--wait SECONDS]",
+        usage: "FILE SLOT KEYS\n[--text TEXT | --file NAME | --empty] [--again] [--wait SECONDS]",
         summary: "write a caption",
         about: "\
 Writes a caption into a slot of the sheet, in place of what the slot held. The
@@ -87,11 +94,15 @@ A caption of no bytes is written only where --empty is given. Input that is
 empty is taken for input that was lost, and nothing is written (exit status
 66): from a command before the pipe that failed, say, or an unset variable.
 
+A caption that the slot holds already isn't written, since each write uses up a
+write number and wears the tag: a line on standard error begins with
+\"unchanged\", and the exit status is 0. --again writes it all the same.
+
 One pair of keys serves a sheet: with other keys than those that it was blanked
 with nothing is written (exit status 14). A sheet of edition 1 or 2, which has
 no mark of its keys, takes any keys of the right length.
 ",
-        statuses: &[1, 2, 4, 5, 6, 7, 8, 14, 65, 66, 75, 79],
+        statuses: &[1, 2, 4, 5, 6, 7, 8, 14, 65, 66, 73, 75, 79],
     },
     Page {
         name: "read",
@@ -117,7 +128,7 @@ slot is on show on DATE by the term sheet TERMS, which has as many slots as
 FILE: from the slot's opening to its closing day, both included. On any other
 day it is refused (exit status 12). Without them no term is looked at.
 ",
-        statuses: &[1, 2, 4, 5, 6, 9, 10, 11, 12, 14, 65],
+        statuses: &[1, 2, 4, 5, 6, 9, 10, 11, 12, 14, 65, 66],
     },
     Page {
         name: "clear",
@@ -129,7 +140,7 @@ day it is refused (exit status 12). Without them no term is looked at.
         about: "\
 Makes a slot blank, without keys. A blank slot stays blank.
 ",
-        statuses: &[4, 6, 75, 79],
+        statuses: &[4, 6, 66, 73, 75, 79],
     },
     Page {
         name: "list",
@@ -149,7 +160,7 @@ key, last and list; list has an object for each slot, with the members slot,
 state (\"blank\" or \"written\"), write and length. What a blank slot or an unfit
 sheet doesn't have is null.
 ",
-        statuses: &[],
+        statuses: &[66],
     },
     Page {
         name: "verify",
@@ -178,7 +189,7 @@ altered and list; list has an object for each slot, with the members slot, state
 length of a slot that isn't sound are null; reason is what differs in an altered
 slot, else null.
 ",
-        statuses: &[1, 2, 4, 5, 10, 14, 65],
+        statuses: &[1, 2, 4, 5, 10, 14, 65, 66],
     },
     Page {
         name: "export",
@@ -189,8 +200,12 @@ slot, else null.
         summary: "print all captions as a table",
         about: "\
 Prints the sheet as a table for a spreadsheet: lines of UTF-8 with a tab between
-the two columns, slot and text. The first line names them. Each slot has a line;
-a blank slot's text is empty.
+the columns slot, text, write and serial. The first line names them. Each slot
+has a line; a blank slot's text is empty.
+
+Change the texts alone. The last two columns say what a line was taken from: the
+slot's write number, 0 for a blank slot, and the sheet's serial. By them an
+import finds what somebody else has written since.
 
 An altered slot has no line, so that an import of the table leaves it alone. It
 is named on standard error, and the exit status is then 10.
@@ -200,7 +215,7 @@ and \\x with two hex digits a byte, for control characters and what isn't UTF-8.
 \\& is nothing: it stands first where a spreadsheet could take the text for a
 number, a date, a formula or a quotation, and alone for a caption of no bytes.
 ",
-        statuses: &[1, 2, 4, 5, 10, 14, 65],
+        statuses: &[1, 2, 4, 5, 10, 14, 65, 66],
     },
     Page {
         name: "import",
@@ -208,11 +223,12 @@ number, a date, a formula or a quotation, and alone for a caption of no bytes.
         options: &[
             ("--dry-run", "print what would change, and change nothing"),
             ("--clear", "make a slot blank where its text is empty"),
+            ("--force", "write slots that were written since the export"),
             ("--file NAME", "the table is in the file NAME"),
             WAIT,
         ],
         instead: None,
-        usage: "FILE KEYS [--dry-run] [--clear] [--file NAME]\n[--wait SECONDS]",
+        usage: "FILE KEYS\n[--dry-run] [--clear] [--force] [--file NAME] [--wait SECONDS]",
         summary: "write the captions of a table",
         about: "\
 Writes the captions of a table as captions export prints it, read from standard
@@ -225,18 +241,27 @@ slot; where the slot is written, the table is refused (exit status 65) unless
 --clear is given. A caption of no bytes is the text \\&. A slot that is altered
 isn't overwritten (exit status 10): clear it first.
 
+A slot that the table would change must be as it was when the table was
+exported. Where it was written or cleared since, or the line is of a sheet with
+another serial, nothing is imported (exit status 65): somebody's work would be
+lost. Export again and bring your changes over, or take those lines out. --force
+imports them all the same. A sheet that never was written has nothing to lose
+and takes any table. So does every sheet a table of slot and text alone, as it
+is typed by hand; a line on standard error says that nothing can be told then.
+
 The table may be as spreadsheets save it: UTF-8, or UTF-16 with a byte order
 mark; lines that end with a carriage return; texts in quotation marks, with the
 mark doubled inside; empty lines and empty columns at the end. A text that isn't
-UTF-8 or is blanks alone, a third column or a slot that is there twice is
-refused, with its line.
+UTF-8 or is blanks alone, a column too many or a slot that is there twice is
+refused. Every line that can't be imported is named, and then none is imported.
 
 With --dry-run it prints a line for each change, with tabs between slot, \"write\"
-or \"clear\", old text and new text. The last line counts:
+or \"clear\", the caption's bytes of 192, old text and new text. The last line
+counts:
 
     writes 2 clears 0 unchanged 6
 ",
-        statuses: &[1, 2, 4, 5, 6, 7, 8, 10, 14, 65, 66, 75, 79],
+        statuses: &[1, 2, 4, 5, 6, 7, 8, 10, 14, 65, 66, 73, 75, 79],
     },
     Page {
         name: "keys",
@@ -248,9 +273,9 @@ or \"clear\", old text and new text. The last line counts:
         about: "\
 Makes FILE a new pair of keys of BITS bits, 64, 96 or 128, from the system's
 random source. Only you can read it (mode 0600). A file that exists is never
-overwritten (exit status 74): with its keys the captions would be lost.
+overwritten (exit status 73): with its keys the captions would be lost.
 ",
-        statuses: &[1, 75, 79],
+        statuses: &[1, 73, 75, 79],
     },
     Page {
         name: "terms",
@@ -273,12 +298,15 @@ list; list has an object for each slot, with the members slot, opening and
 closing. The dates of a slot that is never on show, and what an unfit term sheet
 doesn't have, are null.
 ",
-        statuses: &[],
+        statuses: &[66],
     },
     Page {
         name: "terms-blank",
         operands: &["FILE", "SLOTS"],
-        options: &[("--force", "blank a FILE that exists"), WAIT],
+        options: &[
+            ("--force", "blank a FILE that exists, if it is a term sheet"),
+            WAIT,
+        ],
         instead: None,
         usage: "FILE SLOTS [--force] [--wait SECONDS]",
         summary: "make a term sheet that shows nothing",
@@ -286,10 +314,11 @@ doesn't have, are null.
 Makes FILE a term sheet for a sheet of SLOTS slots, 1 to 256. No slot is ever on
 show by it: nothing is shown before its dates are set.
 
-A FILE that exists is left alone (exit status 74) unless --force is given: all
-its dates would be lost.
+A FILE that exists is left alone (exit status 73) unless --force is given: all
+its dates would be lost. Even then it is replaced only if it is empty or a term
+sheet, torn or not, by its first bytes.
 ",
-        statuses: &[3, 75, 79],
+        statuses: &[3, 73, 75, 79],
     },
     Page {
         name: "terms-set",
@@ -306,7 +335,7 @@ with the caption isn't looked at.
 An OPENING after CLOSING would mean never, and is refused as a wrong command
 line (exit status 64): it is nearly always a slip.
 ",
-        statuses: &[4, 6, 11, 75, 79],
+        statuses: &[4, 6, 11, 66, 73, 75, 79],
     },
     Page {
         name: "bench",
@@ -324,7 +353,7 @@ ROUND 0 is after the first key addition, 12 after the last round and before phi,
 the step that ends a sealing. ARRAY has the nibbles of the array row by row, as
 a block has its own.
 ",
-        statuses: &[1, 3, 13, 65],
+        statuses: &[1, 3, 13, 65, 66],
     },
     Page {
         name: "help",
@@ -342,7 +371,7 @@ Prints what a command does, or without COMMAND what there is. A command's own
 ];
 
 /// The exit statuses and their meanings. A refusal's begins with its word.
-const STATUSES: [(u8, &str); 21] = [
+const STATUSES: [(u8, &str); 22] = [
     (0, "done"),
     (
         1,
@@ -381,10 +410,17 @@ const STATUSES: [(u8, &str); 21] = [
     ),
     (64, "the command line is wrong"),
     (65, "KEYS, KEYFILE or the table isn't in its form"),
-    (66, "the input is empty: no caption, or no table"),
+    (
+        66,
+        "what is to be read isn't there, may not be read or is empty: a sheet,\nkeys, a caption, a table",
+    ),
+    (
+        73,
+        "FILE can't be made, or what is there isn't replaced; it is as it was",
+    ),
     (
         74,
-        "a file, standard input or standard output can't be read or written;\na sheet is as it was",
+        "a file, standard input or standard output failed midway; a sheet is as\nit was",
     ),
     (
         75,

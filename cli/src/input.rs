@@ -5,6 +5,7 @@ use crate::shown::shown;
 use crate::terminal;
 use std::fs::File;
 use std::io::Read;
+use std::os::unix::fs::MetadataExt;
 use std::path::Path;
 
 /// A file that is open, and what messages call it.
@@ -18,11 +19,21 @@ pub fn is_standard(path: &Path) -> bool {
     path.as_os_str() == "-"
 }
 
+/// The device and inode of what a name stands for; none where nothing is there.
+pub fn identity(path: &Path) -> Option<(u64, u64)> {
+    let path = match is_standard(path) {
+        true => Path::new("/dev/stdin"),
+        false => path,
+    };
+    let metadata = std::fs::metadata(path).ok()?;
+    Some((metadata.dev(), metadata.ino()))
+}
+
 pub fn of_file(path: &Path) -> Result<Input, Failure> {
     if is_standard(path) {
         return of_standard_input();
     }
-    let file = File::open(path).map_err(|error| Failure::of_file(path, error))?;
+    let file = File::open(path).map_err(|error| Failure::no_input(path, error))?;
     let name = shown(path).to_string();
     Ok(Input { file, name })
 }
@@ -35,13 +46,16 @@ pub fn of_standard_input() -> Result<Input, Failure> {
 }
 
 impl Input {
-    /// The bytes up to the end, or as many as are wanted at most.
+    /// The bytes up to the end, or as many as are wanted at most. Where not even
+    /// the first can be read, as of a folder, it is no input.
     pub fn bytes(self, most: usize) -> Result<Vec<u8>, Failure> {
         let mut bytes = Vec::new();
         let mut source = self.file.take(most as u64);
+        let name = self.name;
         match source.read_to_end(&mut bytes) {
             Ok(_) => Ok(bytes),
-            Err(error) => Err(Failure::File(format!("{}: {error}", self.name))),
+            Err(error) if bytes.is_empty() => Err(Failure::NoInput(format!("{name}: {error}"))),
+            Err(error) => Err(Failure::File(format!("{name}: {error}"))),
         }
     }
 }

@@ -7,8 +7,8 @@ use captions::{Change, Fault, Refusal, FIELD};
 /// The library's listing, taken apart.
 pub struct Listing {
     pub slots: usize,
-    key: u32,
-    last: u32,
+    pub key: u32,
+    pub last: u32,
     /// Write number and length of each written slot.
     marks: Vec<Option<(u32, u32)>>,
 }
@@ -29,6 +29,13 @@ impl Listing {
             last: last.parse().ok()?,
             marks: marks?,
         })
+    }
+
+    /// The write number of a slot; 0, which no write has, where it is blank or
+    /// there is no such slot.
+    pub fn write_number(&self, slot: usize) -> u32 {
+        let mark = self.marks.get(slot).copied().flatten();
+        mark.map_or(0, |(write, _)| write)
     }
 }
 

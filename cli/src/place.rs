@@ -27,7 +27,7 @@ pub struct Existing {
 }
 
 /// Where a path leads, with every symbolic link followed, or why it doesn't.
-type Resolve = fn(&Path) -> io::Result<PathBuf>;
+type Resolve = fn(&Path) -> Result<PathBuf, Failure>;
 
 impl Place {
     /// Waits for the lock of the folder that a path leads to. A link that is
@@ -35,11 +35,9 @@ impl Place {
     /// the lock is to be that of the folder where the change happens.
     pub fn locked(path: &Path, resolve: Resolve, wait: Duration) -> Result<Place, Failure> {
         let until = Instant::now().checked_add(wait);
-        let of_path = |error| Failure::of_file(path, error);
         loop {
-            let file = resolve(path).map_err(of_path)?;
-            let place = Place::locked_at(file, until)?;
-            if place.is_where(&resolve(path).map_err(of_path)?) {
+            let place = Place::locked_at(resolve(path)?, until)?;
+            if place.is_where(&resolve(path)?) {
                 temporary::remove_leftovers(&place.folder);
                 return Ok(place);
             }
@@ -54,12 +52,12 @@ impl Place {
     /// The place of a file that has no symbolic link in its path.
     fn locked_at(file: PathBuf, until: Option<Instant>) -> Result<Place, Failure> {
         if file.file_name().is_some_and(temporary::is_temporary) {
-            return Err(Failure::of_file(&file, "a temporary file's name"));
+            return Err(Failure::no_output(&file, "a temporary file's name"));
         }
         let folder = file.parent().unwrap_or(&file).to_path_buf();
         let handle = File::open(&folder).map_err(|error| {
             let message = format!("the folder can't be opened: {error}");
-            Failure::of_file(&folder, message)
+            Failure::no_output(&folder, message)
         })?;
         let handle = lock(handle, &folder, until)?;
         Ok(Place {
@@ -136,22 +134,20 @@ impl Place {
     ) -> Result<Temporary, Failure> {
         let mut temporary = Temporary::new(&self.folder, mode).map_err(|error| {
             let message = format!("no file can be made in this folder: {error}");
-            Failure::of_file(&self.folder, message)
+            Failure::no_output(&self.folder, message)
         })?;
+        let message = |error: io::Error| format!("the new file can't be made: {error}");
+        let failed = |error| Failure::of_file(&self.file, message(error));
         let file = &mut temporary.file;
-        file.write_all(bytes)
-            .and_then(|()| keep(file))
-            .and_then(|()| file.sync_all())
-            .map_err(|error| {
-                let message = format!("the new file can't be made: {error}");
-                Failure::of_file(&self.file, message)
-            })?;
+        file.write_all(bytes).map_err(failed)?;
+        keep(file).map_err(|error| Failure::no_output(&self.file, message(error)))?;
+        file.sync_all().map_err(failed)?;
         Ok(temporary)
     }
 
     fn not_named(&self, error: io::Error) -> Failure {
         let message = format!("the new file can't be put there: {error}");
-        Failure::of_file(&self.file, message)
+        Failure::no_output(&self.file, message)
     }
 
     /// Flushes the folder, by which the new name outlasts a power cut.
@@ -184,13 +180,17 @@ fn has_no_links(error: &io::Error) -> bool {
 }
 
 /// Where a file that is there is.
-pub fn of_existing(path: &Path) -> io::Result<PathBuf> {
-    fs::canonicalize(path)
+pub fn of_existing(path: &Path) -> Result<PathBuf, Failure> {
+    fs::canonicalize(path).map_err(|error| Failure::no_input(path, error))
 }
 
-/// Where a file is or would be. A link to nothing is an error: it may not be the
-/// place that its maker meant.
-pub fn of_new(path: &Path) -> io::Result<PathBuf> {
+/// Where a file is or would be.
+pub fn of_new(path: &Path) -> Result<PathBuf, Failure> {
+    new_path(path).map_err(|error| Failure::no_output(path, error))
+}
+
+/// A link to nothing is an error: it may not be the place that its maker meant.
+fn new_path(path: &Path) -> io::Result<PathBuf> {
     match (fs::canonicalize(path), path.file_name()) {
         (Err(error), Some(name))
             if error.kind() == ErrorKind::NotFound && fs::symlink_metadata(path).is_err() =>

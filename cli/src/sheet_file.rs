@@ -8,7 +8,8 @@
 
 use crate::failure::Failure;
 use crate::input;
-use crate::place::{self, Place};
+use crate::kind::Kind;
+use crate::place::{self, Existing, Place};
 use captions::{sheet_len, SLOTS};
 use std::io::{ErrorKind, Read};
 use std::path::Path;
@@ -31,12 +32,12 @@ pub fn change(
     edit: impl FnOnce(&mut [u8]) -> Result<(), Failure>,
 ) -> Result<(), Failure> {
     replaceable(path)?;
-    let of_path = |error| Failure::of_file(path, error);
     let place = Place::locked(path, place::of_existing, wait)?;
-    let old = place.existing().map_err(of_path)?;
-    let mut sheet = Vec::with_capacity(MOST_BYTES);
-    let mut source = (&old.file).take(MOST_BYTES as u64);
-    source.read_to_end(&mut sheet).map_err(of_path)?;
+    let old = place.existing().map_err(|error| match error.kind() {
+        ErrorKind::NotFound => Failure::no_input(path, error),
+        _ => Failure::no_output(path, error),
+    })?;
+    let mut sheet = bytes_of(&old, path)?;
     let before = sheet.clone();
     edit(&mut sheet)?;
     match sheet == before {
@@ -45,21 +46,45 @@ pub fn change(
     }
 }
 
-/// Puts a new sheet into a file, over an existing one only where that is asked.
+/// Puts a new sheet or term sheet into a file. Over an existing one only where
+/// that is asked, it is of that kind, and nothing is against it.
 pub fn create(
     path: &Path,
     wait: Duration,
     sheet: &[u8],
     over_existing: bool,
+    kind: Kind,
+    against: impl FnOnce(&[u8]) -> Option<String>,
 ) -> Result<(), Failure> {
     replaceable(path)?;
     let place = Place::locked(path, place::of_new, wait)?;
     match place.existing() {
-        Ok(old) if over_existing => place.replace(sheet, &old),
-        Ok(_) => Err(Failure::of_file(path, "exists; --force blanks it")),
+        Ok(old) if over_existing => {
+            let bytes = bytes_of(&old, path)?;
+            let found = Kind::of(&bytes);
+            if ![kind, Kind::Empty].contains(&found) {
+                let (found, kind) = (found.name(), kind.name());
+                let message = format!("{found}, and --force replaces {kind} alone");
+                return Err(Failure::no_output(path, message));
+            }
+            match against(&bytes) {
+                Some(reason) => Err(Failure::no_output(path, reason)),
+                None => place.replace(sheet, &old),
+            }
+        }
+        Ok(_) => Err(Failure::no_output(path, "exists; --force blanks it")),
         Err(error) if error.kind() == ErrorKind::NotFound => place.make(sheet, false),
-        Err(error) => Err(Failure::of_file(path, error)),
+        Err(error) => Err(Failure::no_output(path, error)),
     }
+}
+
+/// The bytes of a file that is to be replaced.
+fn bytes_of(old: &Existing, path: &Path) -> Result<Vec<u8>, Failure> {
+    let mut bytes = Vec::with_capacity(MOST_BYTES);
+    let mut source = (&old.file).take(MOST_BYTES as u64);
+    let read = source.read_to_end(&mut bytes);
+    read.map_err(|error| Failure::of_file(path, error))?;
+    Ok(bytes)
 }
 
 /// Puts bytes into a new file that only its owner can read.
@@ -68,8 +93,8 @@ pub fn create_private(path: &Path, wait: Duration, bytes: &[u8]) -> Result<(), F
     let place = Place::locked(path, place::of_new, wait)?;
     match place.is_vacant() {
         Ok(true) => place.make(bytes, true),
-        Ok(false) => Err(Failure::of_file(path, "exists; it is never overwritten")),
-        Err(error) => Err(Failure::of_file(path, error)),
+        Ok(false) => Err(Failure::no_output(path, "exists; it is never overwritten")),
+        Err(error) => Err(Failure::no_output(path, error)),
     }
 }
 

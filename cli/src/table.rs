@@ -1,16 +1,40 @@
-//! The table of a sheet: lines of slot, tab and text, as `captions export`
-//! prints them and as a spreadsheet saves them.
+//! The table of a sheet: lines of slot and text, and what they were taken from,
+//! with a tab between, as `captions export` prints them and as a spreadsheet saves
+//! them.
 
 use crate::escapes;
 
 /// The names of the columns.
-const COLUMNS: [&str; 2] = ["slot", "text"];
+const COLUMNS: [&str; 4] = ["slot", "text", "write", "serial"];
+/// As many of them has a table that was typed.
+const TYPED: usize = 2;
 
 /// A line of the table; a text that is empty is none.
 pub struct Row {
     pub line: usize,
     pub slot: usize,
     pub caption: Option<Vec<u8>>,
+    /// None where the line doesn't say.
+    pub taken: Option<Taken>,
+}
+
+/// What a line was taken from. Columns of plain numbers are what every
+/// spreadsheet keeps, whatever else it does: a line sorted or copied has its own.
+#[derive(Clone, Copy, PartialEq, Eq)]
+pub struct Taken {
+    /// The slot's write number; 0 where it was blank.
+    pub write: u32,
+    /// The sheet's serial; 0 where it has none.
+    pub serial: u16,
+}
+
+/// The rows of a table in the order of their slots, and what is wrong with its
+/// other lines, by their numbers.
+pub struct Rows {
+    pub rows: Vec<Row>,
+    pub faults: Vec<(usize, String)>,
+    /// Whether it has the columns that say what it was taken from.
+    pub is_exported: bool,
 }
 
 /// The table's first line.
@@ -18,49 +42,88 @@ pub fn header() -> String {
     COLUMNS.join("\t") + "\n"
 }
 
+/// The line of a slot.
+pub fn line_of(slot: usize, caption: Option<&[u8]>, taken: Taken) -> String {
+    let (text, Taken { write, serial }) = (text_of(caption), taken);
+    format!("{slot}\t{text}\t{write}\t{serial}\n")
+}
+
 /// The text of a slot; a blank one's is empty.
 pub fn text_of(caption: Option<&[u8]>) -> String {
     caption.map_or(String::new(), escapes::text_of)
 }
 
-/// The rows of a table in the order of their slots, or what is wrong with it.
-pub fn rows(bytes: &[u8]) -> Result<Vec<Row>, String> {
+/// The rows of a table, or what is wrong with it as a whole.
+pub fn rows(bytes: &[u8]) -> Result<Rows, String> {
     let text = characters(bytes)?;
-    let mut records = records(&text)?.into_iter();
-    let (line, first) = records.next().ok_or("it has no lines")?;
-    let is_header = first.len() == COLUMNS.len()
-        && (first.iter().zip(COLUMNS)).all(|(field, name)| field.eq_ignore_ascii_case(name));
-    if !is_header {
+    if let Some(separator) = other_separator(&text) {
         return Err(format!(
-            "line {line}: not slot, a tab and text, as it should begin"
+            "{separator} between its columns; save it as tab-separated text"
         ));
     }
+    let (records, mut faults) = records(&text);
+    let mut records = records.into_iter();
+    let columns = match records.next() {
+        Some((line, first)) => columns_of(&first).ok_or(format!(
+            "line {line}: not slot, a tab and text, as it should begin"
+        ))?,
+        None => return Err("it has no lines".to_string()),
+    };
     let mut rows = Vec::new();
     for (line, fields) in records {
-        rows.push(row(line, &fields).map_err(|fault| format!("line {line}: {fault}"))?);
+        match row(line, &fields, columns) {
+            Ok(row) => rows.push(row),
+            Err(fault) => faults.push((line, fault)),
+        }
     }
     rows.sort_by_key(|row| (row.slot, row.line));
     for pair in rows.windows(2) {
         if let [first, second] = pair {
             if first.slot == second.slot {
-                let (line, slot, other) = (second.line, first.slot, first.line);
-                return Err(format!(
-                    "line {line}: slot {slot} stands in line {other} too"
-                ));
+                let fault = format!("slot {} stands in line {} too", first.slot, first.line);
+                faults.push((second.line, fault));
             }
         }
     }
-    Ok(rows)
+    faults.sort();
+    Ok(Rows {
+        rows,
+        faults,
+        is_exported: columns > TYPED,
+    })
 }
 
-fn row(line: usize, fields: &[String]) -> Result<Row, String> {
-    let (slot, text) = match fields {
-        [slot] => (slot, ""),
-        [slot, text] => (slot, text.as_str()),
-        _ => return Err("a third column; a tab in a text is written \\t".to_string()),
-    };
+/// How many columns the first line names, if those are a table's.
+fn columns_of(first: &[String]) -> Option<usize> {
+    let are_named = (first.iter().zip(COLUMNS)).all(|(field, name)| {
+        let field = field.trim_matches(' ');
+        field.eq_ignore_ascii_case(name)
+    });
+    let count = first.len();
+    (are_named && [TYPED, COLUMNS.len()].contains(&count)).then_some(count)
+}
+
+/// What stands between the columns of a table that a spreadsheet saved in
+/// another form.
+fn other_separator(text: &str) -> Option<&'static str> {
+    let first = text.lines().find(|line| !line.trim().is_empty())?;
+    match first {
+        _ if first.contains('\t') => None,
+        _ if first.contains(';') => Some("semicolons"),
+        _ if first.contains(',') => Some("commas"),
+        _ => None,
+    }
+}
+
+fn row(line: usize, fields: &[String], columns: usize) -> Result<Row, String> {
+    if fields.len() > columns {
+        let more = if columns == TYPED { "third" } else { "fifth" };
+        return Err(format!("a {more} column; a tab in a text is written \\t"));
+    }
+    let field = |place: usize| fields.get(place).map_or("", String::as_str);
+    let (slot, text) = (field(0), field(1));
     let digits = slot.trim_matches(' ');
-    if digits.is_empty() || !digits.bytes().all(|byte| byte.is_ascii_digit()) {
+    if !is_decimal(digits) {
         return Err("the slot isn't a decimal number".to_string());
     }
     let caption = match text {
@@ -76,7 +139,30 @@ fn row(line: usize, fields: &[String]) -> Result<Row, String> {
         // One that is too large for the machine is too large for the library.
         slot: digits.parse().unwrap_or(usize::MAX),
         caption,
+        taken: taken_from(field(2), field(3))?,
     })
+}
+
+/// What a line was taken from, by its last two cells. Both are left empty where
+/// somebody typed the line.
+fn taken_from(write: &str, serial: &str) -> Result<Option<Taken>, String> {
+    let (write, serial) = (write.trim_matches(' '), serial.trim_matches(' '));
+    if write.is_empty() && serial.is_empty() {
+        return Ok(None);
+    }
+    let of = |name: &str| format!("the {name} isn't a number as it was exported");
+    Ok(Some(Taken {
+        write: number(write).ok_or_else(|| of("write number"))?,
+        serial: number(serial).ok_or_else(|| of("serial"))?,
+    }))
+}
+
+fn number<N: std::str::FromStr>(digits: &str) -> Option<N> {
+    digits.parse().ok().filter(|_| is_decimal(digits))
+}
+
+fn is_decimal(digits: &str) -> bool {
+    !digits.is_empty() && digits.bytes().all(|byte| byte.is_ascii_digit())
 }
 
 /// The characters of a table: UTF-8 with or without a byte order mark, or
@@ -92,6 +178,9 @@ fn characters(bytes: &[u8]) -> Result<String, String> {
         }
     };
     match bytes {
+        [b'P', b'K', 3, 4, ..] => {
+            Err("a spreadsheet's own file; save it as tab-separated text".to_string())
+        }
         [0xff, 0xfe, rest @ ..] => utf_16(u16::from_le_bytes, rest),
         [0xfe, 0xff, rest @ ..] => utf_16(u16::from_be_bytes, rest),
         [0xef, 0xbb, 0xbf, rest @ ..] => utf_8(rest),
@@ -112,33 +201,57 @@ fn utf_8(bytes: &[u8]) -> Result<String, String> {
 type Record = (usize, Vec<String>);
 
 /// The lines with their numbers, each as its fields without the empty ones at
-/// its end. Lines without a field are left out.
-fn records(text: &str) -> Result<Vec<Record>, String> {
-    let mut records = Vec::new();
+/// its end, and the lines that have none for a fault. Lines without a field are
+/// left out.
+fn records(text: &str) -> (Vec<Record>, Vec<(usize, String)>) {
+    let (mut records, mut faults) = (Vec::new(), Vec::new());
     let (mut rest, mut line) = (text, 1);
     while !rest.is_empty() {
-        let (mut fields, first_line) = (Vec::new(), line);
-        loop {
-            let (field, after) = field(rest).map_err(|fault| format!("line {line}: {fault}"))?;
-            line += field.matches('\n').count();
-            fields.push(field);
-            match after.strip_prefix('\t') {
-                Some(next) => rest = next,
-                None => {
-                    rest = end_of_line(after).unwrap_or(after);
-                    break;
+        match record(rest) {
+            Ok((fields, after)) => {
+                if !fields.is_empty() {
+                    records.push((line, fields));
                 }
+                line += lines_before(rest, after);
+                rest = after;
+            }
+            // The next line may be in order, or have a fault of its own.
+            Err((at, fault)) => {
+                line += lines_before(rest, at);
+                faults.push((line, fault.to_string()));
+                rest = at.split_once('\n').map_or("", |(_, after)| after);
+                line += 1;
             }
         }
-        line += 1;
-        while fields.last().is_some_and(String::is_empty) {
-            fields.pop();
-        }
-        if !fields.is_empty() {
-            records.push((first_line, fields));
+    }
+    (records, faults)
+}
+
+/// How many lines end in a text before this rest of it.
+fn lines_before(text: &str, rest: &str) -> usize {
+    let before = text.bytes().take(text.len() - rest.len());
+    before.filter(|byte| *byte == b'\n').count()
+}
+
+/// The fields of a line without the empty ones at its end, and what follows the
+/// line; or where it has a fault, and which.
+fn record(text: &str) -> Result<(Vec<String>, &str), (&str, &'static str)> {
+    let (mut fields, mut rest) = (Vec::new(), text);
+    loop {
+        let (field, after) = field(rest).map_err(|fault| (rest, fault))?;
+        fields.push(field);
+        match after.strip_prefix('\t') {
+            Some(next) => rest = next,
+            None => {
+                rest = end_of_line(after).unwrap_or(after);
+                break;
+            }
         }
     }
-    Ok(records)
+    while fields.last().is_some_and(String::is_empty) {
+        fields.pop();
+    }
+    Ok((fields, rest))
 }
 
 /// What follows the end of a line, if a line ends here.

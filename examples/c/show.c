@@ -8,7 +8,8 @@
  * key: words of a command line can be seen by others on the machine. With a
  * term sheet and a date, YYYY-MM-DD, a slot is shown only while it is on show.
  * Exits with the number of the refusal, 64 for wrong usage, 65 where KEYS isn't
- * two lines of hex digits, 74 where a file or standard output fails. */
+ * two lines of hex digits, 66 where a file can't be read, 74 where standard
+ * output fails. */
 #include "captions.h"
 
 #include <stdio.h>
@@ -102,10 +103,10 @@ static int bytes_of(const char *name, uint8_t *bytes, size_t room,
     return 1;
 }
 
-static int cannot(const char *name)
+static int cannot(const char *name, int status)
 {
     perror(name);
-    return 74;
+    return status;
 }
 
 int main(int count, char **words)
@@ -126,11 +127,11 @@ int main(int count, char **words)
 
     file = fopen(words[3], "rb");
     if (file == NULL)
-        return cannot(words[3]);
+        return cannot(words[3], 66);
     two_lines = key_of_line(file, sealing, &sealing_len) &&
                 key_of_line(file, checking, &checking_len) && getc(file) == EOF;
     if (ferror(file))
-        return cannot(words[3]);
+        return cannot(words[3], 66);
     fclose(file);
     if (!two_lines) {
         fprintf(stderr, "%s: not two lines of hex digits\n", words[3]);
@@ -138,13 +139,13 @@ int main(int count, char **words)
     }
 
     if (!bytes_of(words[1], sheet, sizeof sheet, &sheet_len))
-        return cannot(words[1]);
+        return cannot(words[1], 66);
     if (count == 4) {
         answer = captions_read(sealing, sealing_len, checking, checking_len,
                                sheet, sheet_len, slot, window, sizeof window);
     } else {
         if (!bytes_of(words[4], terms, sizeof terms, &terms_len))
-            return cannot(words[4]);
+            return cannot(words[4], 66);
         answer = captions_dated_read(
             sealing, sealing_len, checking, checking_len, sheet, sheet_len,
             terms, terms_len, slot, day_of(words[5]), window, sizeof window);
@@ -156,7 +157,7 @@ int main(int count, char **words)
     putchar('\n');
     /* A full disk shows when the last bytes leave the buffer. */
     if (fflush(stdout) != 0 || ferror(stdout))
-        return cannot("standard output");
+        return cannot("standard output", 74);
     if (answer.rule != CAPTIONS_RULE_NONE)
         fprintf(stderr, "rule %d, slot %d, place %d\n", answer.rule,
                 answer.slot, answer.place);

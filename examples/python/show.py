@@ -7,7 +7,7 @@
 KEYS names a file with two lines of hex digits, the sealing and the checking key.
 With a term sheet and a date, YYYY-MM-DD, a slot is shown only while it is on show.
 Exits with the number of the refusal, 64 for wrong usage, 65 where KEYS isn't two
-lines of hex digits, 74 where a file or standard output fails.
+lines of hex digits, 66 where a file can't be read, 74 where standard output fails.
 """
 
 import ctypes
@@ -87,6 +87,10 @@ def main(words: list[str]) -> int:
         else:
             terms, day = pathlib.Path(words[3]).read_bytes(), day_of(words[4])
             number, caption = read("captions_dated_read", *pair, sheet, terms, slot, day)
+    except OSError as error:
+        print(f"show.py: {error}", file=sys.stderr)
+        return 66
+    try:
         with open(1, "wb", closefd=False) as output:
             output.write((caption if number == 0 else WORDS[number].encode()) + b"\n")
     except OSError as error:

@@ -81,13 +81,23 @@ fn access_list(owner: u16, user: u16, group: u16, mask: u16, others: u16) -> Vec
 fn sheet_and_changes(scratch: &Scratch) -> (std::path::PathBuf, Vec<Vec<OsString>>) {
     let (file, keys) = (scratch.join("sheet"), scratch.keys(8));
     let table = scratch.join("table");
-    fs::write(&table, "slot\ttext\n0\tClock\n").unwrap();
+    fs::write(&table, "slot\ttext\twrite\tserial\n0\tClock\t0\t1\n").unwrap();
     fs::write(&file, written(&blank_sheet(1, 4), 8, 0, b"Vase")).unwrap();
     let changes = vec![
         words!["write", file, "0", keys, "--text", "Table"].to_vec(),
-        words!["import", file, keys, "--file", table].to_vec(),
+        words!["import", file, keys, "--force", "--file", table].to_vec(),
         words!["clear", file, "0"].to_vec(),
-        words!["blank", file, "2", "64", "1", keys, "--force"].to_vec(),
+        words![
+            "blank",
+            file,
+            "2",
+            "64",
+            "1",
+            keys,
+            "--force",
+            "--force-serial"
+        ]
+        .to_vec(),
     ];
     (file, changes)
 }
@@ -236,7 +246,7 @@ fn a_group_that_cannot_be_kept_opens_nothing() {
     chown(&file, Some(65534), Some(54321)).unwrap();
     if set(&file, ACCESS, &access_list(6, 4, 4, 4, 0)) {
         for change in &changes {
-            run(change).failed(74, "it is about a group that can't be kept");
+            run(change).failed(73, "it is about a group that can't be kept");
             assert_eq!(fs::read(&file).unwrap(), sheet);
         }
     }
@@ -258,7 +268,7 @@ fn an_attribute_that_cannot_be_kept_is_refused() {
             command.args(change).env("FAULT_CALL", call);
             command.env("FAULT_HOW", errno.to_string());
             run_command(command, b"")
-                .failed(74, "the old file's attribute user.curator can't be kept");
+                .failed(73, "the old file's attribute user.curator can't be kept");
             let after = (fs::read(&file).unwrap(), fs::metadata(&file).unwrap().ino());
             assert!(after == before);
             assert!(temporaries(scratch.path()).is_empty());

@@ -100,7 +100,7 @@ fn words_that_are_no_round_or_no_array() {
     ] {
         run(&words!["bench", key, "5", array]).failed(64, "ARRAY is 16 hex digits");
     }
-    run(&words!["bench", scratch.join("none"), "5", array]).failed(74, "No such file");
+    run(&words!["bench", scratch.join("none"), "5", array]).failed(66, "No such file");
     // The words are looked at before the file is.
     run(&words!["bench", scratch.join("none"), "x", array]).failed(64, "ROUND");
     run(&words!["bench", key, "5", array, "--wait", "1"]).failed(64, "no option --wait");

@@ -54,7 +54,11 @@ impl Place {
         let (file, keys) = (&self.file, self.scratch.keys(8));
         let old = written(&blank_sheet(256, 4), 8, 7, b"Vase, 1752");
         let table = self.scratch.join("table");
-        fs::write(&table, "slot\ttext\n7\t\n0\tVase, 1751\n").unwrap();
+        fs::write(
+            &table,
+            "slot\ttext\twrite\tserial\n7\t\t1\t1\n0\tVase, 1751\t0\t1\n",
+        )
+        .unwrap();
         let never = [(36524, 0); 256];
         let mut terms = never;
         terms[7] = (9617, 9800);
@@ -264,6 +268,20 @@ fn outcome(place: &Place, name: &str, path: &Path) -> Outcome {
     }
 }
 
+/// The status of an error at a call: 66 where keys or a table can't be read, 73
+/// where the new file can't be begun, get the old one's attributes or come into
+/// its place, 74 where it fails midway.
+fn status(place: &Place, calls: &[(String, PathBuf)], at: usize) -> i32 {
+    let (name, path) = &calls[at];
+    let is_input = !path.starts_with(&place.folder);
+    match name.as_str() {
+        "open" if is_input => 66,
+        "read" if is_input && !calls[..at].contains(&calls[at]) => 66,
+        "read" | "write" | "fsync" | "flock" => 74,
+        _ => 73,
+    }
+}
+
 #[test]
 fn an_error_at_each_step() {
     let mut errors = 0;
@@ -271,7 +289,8 @@ fn an_error_at_each_step() {
         let place = Place::new(locks);
         for change in place.changes() {
             place.run(&change, None).done();
-            for (at, (name, path)) in place.calls().iter().enumerate() {
+            let calls = place.calls();
+            for (at, (name, path)) in calls.iter().enumerate() {
                 for (errno, words) in [(EIO, "Input/output"), (ENOSPC, "No space left")] {
                     let run = place.run(&change, Some((at, &errno.to_string())));
                     errors += 1;
@@ -279,7 +298,7 @@ fn an_error_at_each_step() {
                     let is_new = outcome != Outcome::Failed;
                     assert_eq!(place.is_new(&change), is_new, "{name} {path:?}");
                     match outcome {
-                        Outcome::Failed => run.failed(74, words),
+                        Outcome::Failed => run.failed(status(&place, &calls, at), words),
                         Outcome::NotFlushed => run.failed(79, "done, the new file is in place"),
                         Outcome::Done => run.done(),
                     }
@@ -379,7 +398,7 @@ fn a_file_that_vanishes_at_each_step() {
         {
             place
                 .run(change, Some((at, &ENOENT.to_string())))
-                .failed(74, "No such file");
+                .failed(66, "No such file");
             assert!(!place.is_new(change));
         }
     }
@@ -398,7 +417,7 @@ fn a_temporary_file_that_vanishes() {
             let at = calls.iter().position(put).unwrap();
             place
                 .run(&change, Some((at, &ENOENT.to_string())))
-                .failed(74, "the new file can't be put there: No such file");
+                .failed(73, "the new file can't be put there: No such file");
             assert!(!place.is_new(&change));
         }
     }

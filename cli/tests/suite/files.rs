@@ -1,4 +1,4 @@
-//! Files that are missing, protected, linked or no files at all (74), and what
+//! Files that are missing, protected, linked or no files at all (66, 73), and what
 //! a changed file keeps.
 
 use crate::support::*;
@@ -8,14 +8,16 @@ use std::os::unix::fs::{chown, symlink, MetadataExt};
 use std::path::Path;
 use std::process::Command;
 
-/// Every command on this file fails with 74 and these words.
+/// Every command on this file fails with these words: with 66 where it isn't
+/// there or can't be read, with 73 where it can't be replaced.
 #[track_caller]
 fn all_fail(file: &Path, keys: &Path, reading: &str, changing: &str) {
-    run(&words!["list", file]).failed(74, reading);
-    run(&words!["read", file, "0", keys]).failed(74, reading);
-    run(&words!["verify", file, keys]).failed(74, reading);
-    run(&words!["clear", file, "0"]).failed(74, changing);
-    run_with(&words!["write", file, "0", keys], b"Vase").failed(74, changing);
+    run(&words!["list", file]).failed(66, reading);
+    run(&words!["read", file, "0", keys]).failed(66, reading);
+    run(&words!["verify", file, keys]).failed(66, reading);
+    let status = if changing == reading { 66 } else { 73 };
+    run(&words!["clear", file, "0"]).failed(status, changing);
+    run_with(&words!["write", file, "0", keys], b"Vase").failed(status, changing);
 }
 
 #[test]
@@ -33,7 +35,7 @@ fn a_file_that_is_not_there_stays_so() {
         "1",
         keys
     ])
-    .failed(74, missing);
+    .failed(73, missing);
     assert_eq!(scratch.names(), ["keys-8"]);
 }
 
@@ -41,10 +43,10 @@ fn a_file_that_is_not_there_stays_so() {
 fn keys_that_are_not_there() {
     let scratch = Scratch::new();
     let (file, keys) = (scratch.sheet("sheet", 1, 4), scratch.join("keys"));
-    run(&words!["read", file, "0", keys]).failed(74, "keys: No such file");
-    run(&words!["write", file, "0", keys]).failed(74, "keys: No such file");
-    run(&words!["verify", file, keys]).failed(74, "keys: No such file");
-    run(&words!["read", file, "0", scratch.path()]).failed(74, "Is a directory");
+    run(&words!["read", file, "0", keys]).failed(66, "keys: No such file");
+    run(&words!["write", file, "0", keys]).failed(66, "keys: No such file");
+    run(&words!["verify", file, keys]).failed(66, "keys: No such file");
+    run(&words!["read", file, "0", scratch.path()]).failed(66, "Is a directory");
 }
 
 #[test]
@@ -54,8 +56,18 @@ fn a_path_under_a_file() {
     let under = file.join("sheet");
     let message = "Not a directory";
     all_fail(&under, &keys, message, message);
-    run(&words!["blank", under, "1", "64", "1", keys]).failed(74, message);
-    run(&words!["blank", under, "1", "64", "1", keys, "--force"]).failed(74, message);
+    run(&words!["blank", under, "1", "64", "1", keys]).failed(73, message);
+    run(&words![
+        "blank",
+        under,
+        "1",
+        "64",
+        "1",
+        keys,
+        "--force",
+        "--force-serial"
+    ])
+    .failed(73, message);
     assert_eq!(fs::read(file).unwrap(), blank_sheet(1, 4));
 }
 
@@ -65,9 +77,29 @@ fn a_folder_is_no_sheet() {
     let (folder, keys) = (scratch.join("folder"), scratch.keys(8));
     fs::create_dir(&folder).unwrap();
     all_fail(&folder, &keys, "Is a directory", "not a regular file");
-    run(&words!["blank", folder, "1", "64", "1", keys]).failed(74, "not a regular file");
-    run(&words!["blank", folder, "1", "64", "1", keys, "--force"]).failed(74, "not a regular file");
-    run(&words!["blank", "/", "1", "64", "1", keys, "--force"]).failed(74, "not a regular file");
+    run(&words!["blank", folder, "1", "64", "1", keys]).failed(73, "not a regular file");
+    run(&words![
+        "blank",
+        folder,
+        "1",
+        "64",
+        "1",
+        keys,
+        "--force",
+        "--force-serial"
+    ])
+    .failed(73, "not a regular file");
+    run(&words![
+        "blank",
+        "/",
+        "1",
+        "64",
+        "1",
+        keys,
+        "--force",
+        "--force-serial"
+    ])
+    .failed(73, "not a regular file");
     assert!(folder.is_dir());
 }
 
@@ -82,8 +114,18 @@ fn a_pipe_is_listed_and_not_replaced() {
         .status()
         .unwrap()
         .success());
-    run(&words!["clear", pipe, "0"]).failed(74, "not a regular file");
-    run(&words!["blank", pipe, "1", "64", "1", keys, "--force"]).failed(74, "not a regular file");
+    run(&words!["clear", pipe, "0"]).failed(73, "not a regular file");
+    run(&words![
+        "blank",
+        pipe,
+        "1",
+        "64",
+        "1",
+        keys,
+        "--force",
+        "--force-serial"
+    ])
+    .failed(73, "not a regular file");
     let writer = {
         let pipe = pipe.clone();
         std::thread::spawn(move || fs::write(pipe, blank_sheet(1, 4)).unwrap())
@@ -113,11 +155,21 @@ fn a_read_only_folder() {
     unprivileged(&scratch);
     set_mode(scratch.path(), 0o555);
     let run = |words: &[std::ffi::OsString]| unprivileged_run(&scratch, words, b"Vase");
-    run(&words!["write", file, "0", keys]).failed(74, denied);
-    run(&words!["clear", file, "0"]).failed(74, denied);
-    run(&words!["blank", file, "1", "64", "1", keys, "--force"]).failed(74, denied);
-    run(&words!["blank", scratch.join("new"), "1", "64", "1", keys]).failed(74, denied);
-    run(&words!["keys", scratch.join("new"), "64"]).failed(74, denied);
+    run(&words!["write", file, "0", keys]).failed(73, denied);
+    run(&words!["clear", file, "0"]).failed(73, denied);
+    run(&words![
+        "blank",
+        file,
+        "1",
+        "64",
+        "1",
+        keys,
+        "--force",
+        "--force-serial"
+    ])
+    .failed(73, denied);
+    run(&words!["blank", scratch.join("new"), "1", "64", "1", keys]).failed(73, denied);
+    run(&words!["keys", scratch.join("new"), "64"]).failed(73, denied);
     run(&words!["list", file]).printed(b"slots 1 key 64 last 1\n0 written 1 5\n");
     assert_eq!(fs::read(&file).unwrap(), sheet);
     assert!(temporaries(scratch.path()).is_empty());
@@ -132,9 +184,19 @@ fn a_write_protected_file_in_a_folder_that_can_be_written() {
     let (file, keys) = (scratch.sheet("sheet", 1, 4), scratch.keys(8));
     set_mode(&file, 0o444);
     let run = |words: &[std::ffi::OsString]| unprivileged_run(&scratch, words, b"Vase");
-    run(&words!["write", file, "0", keys]).failed(74, "Permission denied");
-    run(&words!["clear", file, "0"]).failed(74, "Permission denied");
-    run(&words!["blank", file, "1", "64", "1", keys, "--force"]).failed(74, "Permission denied");
+    run(&words!["write", file, "0", keys]).failed(73, "Permission denied");
+    run(&words!["clear", file, "0"]).failed(73, "Permission denied");
+    run(&words![
+        "blank",
+        file,
+        "1",
+        "64",
+        "1",
+        keys,
+        "--force",
+        "--force-serial"
+    ])
+    .failed(73, "Permission denied");
     assert_eq!(fs::read(&file).unwrap(), blank_sheet(1, 4));
 }
 
@@ -144,10 +206,10 @@ fn files_that_cannot_be_read() {
     let (file, keys) = (scratch.sheet("sheet", 1, 4), scratch.keys(8));
     let run = |words: &[std::ffi::OsString]| unprivileged_run(&scratch, words, b"Vase");
     set_mode(&keys, 0o000);
-    run(&words!["read", file, "0", keys]).failed(74, "keys-8: Permission denied");
+    run(&words!["read", file, "0", keys]).failed(66, "keys-8: Permission denied");
     set_mode(&file, 0o000);
-    run(&words!["list", file]).failed(74, "sheet: Permission denied");
-    run(&words!["clear", file, "0"]).failed(74, "sheet: Permission denied");
+    run(&words!["list", file]).failed(66, "sheet: Permission denied");
+    run(&words!["clear", file, "0"]).failed(73, "sheet: Permission denied");
 }
 
 /// One curator may change the sheet of another who lets them, and it becomes
@@ -191,9 +253,29 @@ fn the_mode_is_kept() {
         assert_eq!(mode(&file), bits);
         run(&words!["clear", file, "0"]).done();
         assert_eq!(mode(&file), bits);
-        run(&words!["blank", file, "2", "64", "1", keys, "--force"]).done();
+        run(&words![
+            "blank",
+            file,
+            "2",
+            "64",
+            "1",
+            keys,
+            "--force",
+            "--force-serial"
+        ])
+        .done();
         assert_eq!(mode(&file), bits);
-        run(&words!["blank", file, "1", "64", "1", keys, "--force"]).done();
+        run(&words![
+            "blank",
+            file,
+            "1",
+            "64",
+            "1",
+            keys,
+            "--force",
+            "--force-serial"
+        ])
+        .done();
     }
 }
 
@@ -217,12 +299,12 @@ fn blank_leaves_an_existing_file_alone_unless_forced() {
     let keys = shared_keys(8);
     let file = scratch.join("sheet");
     let sheet = written(&blank_sheet(2, 4), 8, 1, b"Clock");
-    for content in [&sheet[..], b"", b"a letter, by mistake"] {
+    for content in [&sheet[..], b""] {
         fs::write(&file, content).unwrap();
-        run(&words!["blank", file, "2", "64", "1", keys]).failed(74, "exists; --force blanks it");
+        run(&words!["blank", file, "2", "64", "1", keys]).failed(73, "exists; --force blanks it");
         assert_eq!(fs::read(&file).unwrap(), content);
-        run(&words!["blank", file, "--force", "2", "64", "1", keys]).done();
-        assert_eq!(fs::read(&file).unwrap(), blank_sheet(2, 4));
+        run(&words!["blank", file, "--force", "2", "64", "2", keys]).done();
+        assert_eq!(fs::read(&file).unwrap(), blank_sheet_with(2, 4, 2));
     }
     // Where nothing is, --force changes nothing.
     run(&words![
@@ -258,7 +340,7 @@ fn a_symbolic_link_is_followed_and_stays() {
     let sheet = written(&blank_sheet(1, 4), 8, 0, b"Vase");
     assert_eq!(fs::read(&file).unwrap(), sheet);
     run(&words!["read", link, "0", keys]).printed(b"Vase");
-    run(&words!["blank", link, "1", "64", "1", keys]).failed(74, "exists");
+    run(&words!["blank", link, "1", "64", "1", keys]).failed(73, "exists");
     let longer = shared_keys(12);
     run(&words!["blank", link, "1", "96", "1", longer, "--force"]).done();
     assert_eq!(fs::read(&file).unwrap(), blank_sheet(1, 6));
@@ -275,12 +357,22 @@ fn a_symbolic_link_to_nothing_is_left_alone() {
     symlink("nowhere", &link).unwrap();
     let missing = "No such file or directory";
     all_fail(&link, &keys, missing, missing);
-    run(&words!["blank", link, "1", "64", "1", keys]).failed(74, missing);
-    run(&words!["blank", link, "1", "64", "1", keys, "--force"]).failed(74, missing);
+    run(&words!["blank", link, "1", "64", "1", keys]).failed(73, missing);
+    run(&words![
+        "blank",
+        link,
+        "1",
+        "64",
+        "1",
+        keys,
+        "--force",
+        "--force-serial"
+    ])
+    .failed(73, missing);
     assert_eq!(scratch.names(), ["keys-8", "link"]);
     let around = scratch.join("around");
     symlink("around", &around).unwrap();
-    run(&words!["blank", around, "1", "64", "1", keys]).failed(74, "symbolic links");
+    run(&words!["blank", around, "1", "64", "1", keys]).failed(73, "symbolic links");
 }
 
 /// As the help text says: the other name keeps the old sheet.
@@ -315,7 +407,7 @@ fn the_longest_name_will_do() {
         "1",
         keys
     ])
-    .failed(74, "too long");
+    .failed(73, "too long");
 }
 
 /// A name that ends as a folder's does isn't made a file's.
@@ -327,12 +419,22 @@ fn a_folders_name_is_no_new_sheets() {
         let mut name = scratch.join("new").into_os_string();
         name.push(end);
         let message = "a folder's name, not a file's";
-        run(&words!["blank", name, "1", "64", "1", keys]).failed(74, message);
-        run(&words!["blank", name, "1", "64", "1", keys, "--force"]).failed(74, message);
-        run(&words!["keys", name, "64"]).failed(74, message);
+        run(&words!["blank", name, "1", "64", "1", keys]).failed(73, message);
+        run(&words![
+            "blank",
+            name,
+            "1",
+            "64",
+            "1",
+            keys,
+            "--force",
+            "--force-serial"
+        ])
+        .failed(73, message);
+        run(&words!["keys", name, "64"]).failed(73, message);
     }
     let folder = scratch.join("new/..");
-    run(&words!["blank", folder, "1", "64", "1", keys]).failed(74, "No such file");
+    run(&words!["blank", folder, "1", "64", "1", keys]).failed(73, "No such file");
     assert!(scratch.names().is_empty());
 }
 
@@ -346,12 +448,12 @@ fn a_message_names_the_folder_if_it_is_the_folders_fault() {
     fs::write(&file, blank_sheet(1, 4)).unwrap();
     let new = scratch.join("none/sheet");
     run(&words!["blank", new, "1", "64", "1", keys])
-        .failed(74, "none/sheet: its folder: No such file");
+        .failed(73, "none/sheet: its folder: No such file");
     unprivileged(&scratch);
     let run = |words: &[std::ffi::OsString]| unprivileged_run(&scratch, words, b"Vase");
     set_mode(&folder, 0o333);
     let message = format!("captions: {}: the folder can't be opened", folder.display());
-    run(&words!["write", file, "0", keys]).failed(74, &message);
-    run(&words!["blank", folder.join("new"), "1", "64", "1", keys]).failed(74, &message);
+    run(&words!["write", file, "0", keys]).failed(73, &message);
+    run(&words!["blank", folder.join("new"), "1", "64", "1", keys]).failed(73, &message);
     set_mode(&folder, 0o755);
 }

@@ -45,7 +45,7 @@ fn help_as_people_ask_for_it() {
     }
     run(&["help", "open"]).failed(64, "no command open");
     run(&["help", "list", "read"]).failed(64, "help takes one command");
-    run(&["list", "--", "--help"]).failed(74, "--help: No such file");
+    run(&["list", "--", "--help"]).failed(66, "--help: No such file");
     assert_eq!(printed(&["--version"]), "captions 0.5.0\n");
     assert_eq!(printed(&["-V"]), "captions 0.5.0\n");
 }
@@ -110,7 +110,7 @@ fn help_has_every_status_and_what_a_sheet_cannot_tell() {
         .iter()
         .map(|(term, _)| term.as_str())
         .collect();
-    assert_eq!(others, ["64", "65", "66", "74", "75", "79"]);
+    assert_eq!(others, ["64", "65", "66", "73", "74", "75", "79"]);
     for words in [
         TEMPORARY,
         "An old sheet put back in the place of a newer one is a sound sheet",

@@ -28,7 +28,17 @@ fn a_pair_of_keys_is_made() {
                 assert!(seen.insert(line.to_string()), "a key that was there before");
             }
             let file = scratch.join("sheet");
-            run(&words!["blank", file, "1", bits, "1", keys, "--force"]).done();
+            run(&words![
+                "blank",
+                file,
+                "1",
+                bits,
+                "1",
+                keys,
+                "--force",
+                "--force-serial"
+            ])
+            .done();
             run(&words!["write", file, "0", keys, "--text", "Vase"]).done();
             run(&words!["read", file, "0", keys]).printed(b"Vase");
         }
@@ -65,16 +75,16 @@ fn keys_are_never_overwritten() {
     let link = scratch.join("link");
     symlink("keys-8", &link).unwrap();
     let exists = "exists; it is never overwritten";
-    run(&words!["keys", keys, "64"]).failed(74, exists);
-    run(&words!["keys", link, "64"]).failed(74, exists);
+    run(&words!["keys", keys, "64"]).failed(73, exists);
+    run(&words!["keys", link, "64"]).failed(73, exists);
     run(&words!["keys", keys, "64", "--force"]).failed(64, "no option --force");
     assert_eq!(fs::read(&keys).unwrap(), before);
     fs::write(scratch.join("empty"), "").unwrap();
-    run(&words!["keys", scratch.join("empty"), "64"]).failed(74, exists);
-    run(&words!["keys", scratch.path(), "64"]).failed(74, exists);
+    run(&words!["keys", scratch.join("empty"), "64"]).failed(73, exists);
+    run(&words!["keys", scratch.path(), "64"]).failed(73, exists);
     let nowhere = scratch.join("nowhere");
     symlink("none", &nowhere).unwrap();
-    run(&words!["keys", nowhere, "64"]).failed(74, "No such file");
+    run(&words!["keys", nowhere, "64"]).failed(73, "No such file");
     assert!(!scratch.join("none").exists());
 }
 
@@ -98,7 +108,7 @@ fn keys_that_everybody_can_read_are_warned_of() {
     let (file, keys) = (scratch.join("sheet"), scratch.keys(8));
     fs::write(&file, written(&blank_sheet(1, 4), 8, 0, b"Vase")).unwrap();
     let table = scratch.join("table");
-    fs::write(&table, "slot\ttext\n0\tVase\n").unwrap();
+    fs::write(&table, "slot\ttext\twrite\tserial\n0\tVase\t1\t1\n").unwrap();
     for (bits, words) in [
         (0o600, None),
         (0o640, None),
@@ -111,7 +121,7 @@ fn keys_that_everybody_can_read_are_warned_of() {
         set_mode(&keys, bits);
         for command in [
             words!["read", file, "0", keys].to_vec(),
-            words!["write", file, "0", keys, "--text", "Vase"].to_vec(),
+            words!["write", file, "0", keys, "--text", "Vase", "--again"].to_vec(),
             words!["verify", file, keys].to_vec(),
             words!["export", file, keys].to_vec(),
             words!["import", file, keys, "--file", table].to_vec(),
@@ -122,7 +132,8 @@ fn keys_that_everybody_can_read_are_warned_of() {
                 "64",
                 "1",
                 keys,
-                "--force"
+                "--force",
+                "--force-serial"
             ]
             .to_vec(),
         ] {
@@ -150,7 +161,17 @@ fn said_of(text: &[u8], file: &Path, keys: &Path) -> String {
         words!["verify", file, keys].to_vec(),
         words!["export", file, keys].to_vec(),
         words!["import", file, keys, "--file", "/dev/null"].to_vec(),
-        words!["blank", file, "1", "64", "1", keys, "--force"].to_vec(),
+        words![
+            "blank",
+            file,
+            "1",
+            "64",
+            "1",
+            keys,
+            "--force",
+            "--force-serial"
+        ]
+        .to_vec(),
     ]
     .iter()
     .map(|words| {

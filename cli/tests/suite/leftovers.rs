@@ -36,10 +36,20 @@ fn make_old(path: &Path) {
 fn changes(scratch: &Scratch) -> [Vec<std::ffi::OsString>; 4] {
     let (file, keys) = (scratch.sheet("sheet", 1, 4), scratch.keys(8));
     [
-        words!["write", file, "0", keys].to_vec(),
+        words!["write", file, "0", keys, "--again"].to_vec(),
         words!["clear", file, "0"].to_vec(),
         words!["clear", file, "0"].to_vec(),
-        words!["blank", file, "1", "64", "1", keys, "--force"].to_vec(),
+        words![
+            "blank",
+            file,
+            "1",
+            "64",
+            "1",
+            keys,
+            "--force",
+            "--force-serial"
+        ]
+        .to_vec(),
     ]
 }
 
@@ -175,10 +185,20 @@ fn a_temporary_files_name_is_no_sheets() {
     for name in [own_name(1), foreign_name(1), ".captions-new".to_string()] {
         let file = scratch.sheet(&name, 1, 4);
         let message = "a temporary file's name";
-        run(&words!["clear", file, "0"]).failed(74, message);
-        run(&words!["write", file, "0", keys, "--text", "Vase"]).failed(74, message);
-        run(&words!["blank", file, "1", "64", "1", keys, "--force"]).failed(74, message);
-        run(&words!["keys", file, "64"]).failed(74, message);
+        run(&words!["clear", file, "0"]).failed(73, message);
+        run(&words!["write", file, "0", keys, "--text", "Vase"]).failed(73, message);
+        run(&words![
+            "blank",
+            file,
+            "1",
+            "64",
+            "1",
+            keys,
+            "--force",
+            "--force-serial"
+        ])
+        .failed(73, message);
+        run(&words!["keys", file, "64"]).failed(73, message);
         assert_eq!(fs::read(&file).unwrap(), blank_sheet(1, 4));
         fs::remove_file(file).unwrap();
     }

@@ -13,6 +13,7 @@ mod keys;
 mod kills;
 mod leftovers;
 mod listing;
+mod no_work_lost;
 mod one_pair;
 mod refusals;
 mod streams;

@@ -30,7 +30,11 @@ impl Place {
         };
         fs::write(&place.file, written(blank, 8, 1, b"Clock")).unwrap();
         fs::write(&place.terms, term_sheet(&[(0, 36524), (0, 36524)])).unwrap();
-        fs::write(&place.table, "slot\ttext\n0\tVase\n1\tClock\n").unwrap();
+        fs::write(
+            &place.table,
+            "slot\ttext\twrite\tserial\n0\tVase\t0\t1\n1\tClock\t1\t1\n",
+        )
+        .unwrap();
         place
     }
 

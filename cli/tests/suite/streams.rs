@@ -17,7 +17,7 @@ fn sheet(scratch: &Scratch) -> (std::path::PathBuf, std::path::PathBuf) {
 fn every_printing_command(scratch: &Scratch) -> Vec<Vec<std::ffi::OsString>> {
     let (file, keys) = sheet(scratch);
     let (table, terms) = (scratch.join("table"), scratch.join("terms"));
-    fs::write(&table, "slot\ttext\n0\tClock\n").unwrap();
+    fs::write(&table, "slot\ttext\twrite\tserial\n0\tClock\t1\t1\n").unwrap();
     fs::write(&terms, term_sheet(&[(0, 36524), (36524, 0)])).unwrap();
     vec![
         words!["list", file].to_vec(),
@@ -122,8 +122,8 @@ fn a_full_standard_error_keeps_the_exit_status() {
     let keys = shared_keys(8);
     for (words, status) in [
         (words!["list"].to_vec(), 64),
-        (words!["list", "/nowhere"].to_vec(), 74),
-        (words!["clear", "/nowhere", "0"].to_vec(), 74),
+        (words!["list", "/nowhere"].to_vec(), 66),
+        (words!["clear", "/nowhere", "0"].to_vec(), 66),
         (
             words!["blank", "/nowhere/sheet", "0", "64", "1", keys].to_vec(),
             3,
@@ -148,8 +148,8 @@ fn no_input_is_no_caption() {
     run(&write).failed(66, lost);
     shell("exec \"$@\" </dev/null", &write, b"").failed(66, lost);
     shell("false | \"$@\"", &write, b"").failed(66, lost);
-    shell("exec \"$@\" <&-", &write, b"").failed(74, "standard input: it is closed");
-    shell("exec \"$@\" 0>/dev/null", &write, b"").failed(74, "standard input: Bad file");
+    shell("exec \"$@\" <&-", &write, b"").failed(66, "standard input: it is closed");
+    shell("exec \"$@\" 0>/dev/null", &write, b"").failed(66, "standard input: Bad file");
     run(&[&write[..], &words!["--text", ""]].concat()).failed(66, lost);
     run(&[&write[..], &words!["--file", "/dev/null"]].concat()).failed(66, lost);
     assert_eq!(state(), before);
@@ -173,6 +173,7 @@ fn a_caption_from_the_command_line() {
             words!["write", "--text", text, file, "1", keys].to_vec(),
             words!["write", format!("--text={text}"), file, "1", keys].to_vec(),
         ] {
+            run(&words!["clear", file, "1"]).done();
             run_with(&words, b"not this").done();
             run(&words!["read", file, "1", keys]).printed(text.as_bytes());
         }
@@ -197,8 +198,8 @@ fn a_caption_from_a_file() {
     }
     fs::write(&name, [b'x'; 193]).unwrap();
     run(&words!["write", file, "1", keys, "--file", name]).refused(7, "overlong");
-    run(&words!["write", file, "1", keys, "--file", "/none"]).failed(74, "/none: No such file");
-    run(&words!["write", file, "1", keys, "--file", "/"]).failed(74, "/: Is a directory");
+    run(&words!["write", file, "1", keys, "--file", "/none"]).failed(66, "/none: No such file");
+    run(&words!["write", file, "1", keys, "--file", "/"]).failed(66, "/: Is a directory");
     run_with(&words!["write", file, "1", keys, "--file", "-"], b"Table").done();
     run(&words!["read", file, "1", keys]).printed(b"Table");
 }

@@ -101,7 +101,7 @@ fn a_hint_is_for_a_terminal_alone() {
         shown.trim_end(),
         "captions: the caption ends with a line feed, which is kept; printf '%s' gives none"
     );
-    run(&write).done();
+    run(&[&write[..], &words!["--again"]].concat()).done();
     // A refused caption gets no hint.
     let refused = words!["write", file, "1", keys, "--file", caption];
     let (status, shown) = at_a_terminal(&refused, b"");
@@ -171,18 +171,18 @@ fn a_name_does_nothing_to_a_terminal() {
     let not_text = OsString::from(OsStr::from_bytes(b"/none\xff\x1b"));
     let _locked = Locked::new(&folder);
     for (words, status, name) in [
-        (words!["list", missing].to_vec(), 74, shown),
-        (words!["clear", missing, "0"].to_vec(), 74, shown),
-        (words!["read", file, "0", missing].to_vec(), 74, shown),
+        (words!["list", missing].to_vec(), 66, shown),
+        (words!["clear", missing, "0"].to_vec(), 66, shown),
+        (words!["read", file, "0", missing].to_vec(), 66, shown),
         (words!["read", file, bad, keys].to_vec(), 64, shown),
         (
             words!["write", file, "0", keys, "--file", missing].to_vec(),
-            74,
+            66,
             shown,
         ),
         (
             words!["blank", missing.join("sheet"), "1", "64", "1", keys].to_vec(),
-            74,
+            73,
             shown,
         ),
         (
@@ -202,7 +202,7 @@ fn a_name_does_nothing_to_a_terminal() {
         ),
         (words![bad].to_vec(), 64, shown),
         (words!["list", format!("-{bad}")].to_vec(), 64, shown),
-        (words!["list", not_text].to_vec(), 74, "/none\\xff\\x1b"),
+        (words!["list", not_text].to_vec(), 66, "/none\\xff\\x1b"),
     ] {
         let run = run_with(&words, b"Vase");
         assert_eq!(run.status, status, "{}", run.stderr);

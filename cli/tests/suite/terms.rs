@@ -480,9 +480,9 @@ fn a_term_sheet_is_replaced_as_a_sheet_is() {
 
     // One that exists is blanked only where that is asked.
     let set = fs::read(&terms).unwrap();
-    for content in [&set[..], b"", b"a letter, by mistake"] {
+    for content in [&set[..], b""] {
         fs::write(&terms, content).unwrap();
-        run(&words!["terms-blank", terms, "3"]).failed(74, "exists; --force blanks it");
+        run(&words!["terms-blank", terms, "3"]).failed(73, "exists; --force blanks it");
         assert_eq!(fs::read(&terms).unwrap(), content);
         run(&words!["terms-blank", terms, "2", "--force"]).done();
         assert_eq!(fs::read(&terms).unwrap(), term_sheet(&[NEVER; 2]));
@@ -498,13 +498,14 @@ fn term_sheets_that_cannot_be_read_or_replaced() {
         (&missing, "none: No such file", "none: No such file"),
         (&folder, "Is a directory", "not a regular file"),
     ] {
-        run(&words!["terms", terms]).failed(74, reading);
-        run(&words!["terms-set", terms, "1", "--never"]).failed(74, changing);
+        run(&words!["terms", terms]).failed(66, reading);
+        let status = if terms == &missing { 66 } else { 73 };
+        run(&words!["terms-set", terms, "1", "--never"]).failed(status, changing);
         let dated = words!["--terms", terms, "--on", "2026-05-01"];
         let read = words!["read", sheet, "1", keys];
-        run(&[&read[..], &dated].concat()).failed(74, reading);
+        run(&[&read[..], &dated].concat()).failed(66, reading);
     }
-    run(&words!["terms-blank", scratch.join("none/terms"), "3"]).failed(74, "No such file");
+    run(&words!["terms-blank", scratch.join("none/terms"), "3"]).failed(73, "No such file");
     assert_eq!(scratch.names(), ["keys-8", "sheet", "terms"]);
 }
 

@@ -129,7 +129,7 @@ impl Machines {
                             self.kill(machine, &words, caption.as_bytes(), &mut random);
                         }
                         let run = self.run(machine, &words, caption.as_bytes());
-                        assert!(run.status == 0 || run.status == 74, "{}", run.stderr);
+                        assert!(run.status == 0 || run.status == 73, "{}", run.stderr);
                         failed.fetch_add(usize::from(run.status != 0), Ordering::Relaxed);
                     }
                     at_work.fetch_sub(1, Ordering::Relaxed);
@@ -202,7 +202,7 @@ fn one_of_several_blanks_makes_the_file_without_a_lock() {
             .map(|run| run.0)
             .collect();
         assert_eq!(makers.len(), 1, "{done:?}");
-        assert!(done.iter().all(|run| [0, 74].contains(&run.1)));
+        assert!(done.iter().all(|run| [0, 73].contains(&run.1)));
         assert_eq!(fs::read(&file).unwrap(), blank_sheet(makers[0] + 1, 4));
     }
 }
@@ -247,7 +247,7 @@ fn one_of_several_blanks_makes_the_file() {
             runs.into_iter().map(|run| run.join().unwrap()).collect()
         });
         assert_eq!(done.iter().filter(|status| **status == 0).count(), 1);
-        assert_eq!(done.iter().filter(|status| **status == 74).count(), 3);
+        assert_eq!(done.iter().filter(|status| **status == 73).count(), 3);
         assert_eq!(fs::read(&file).unwrap(), blank_sheet(256, 4));
     }
 }

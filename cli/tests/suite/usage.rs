@@ -47,7 +47,7 @@ fn a_wrong_command_line_is_64() {
                 run.failed(64, "says more");
             }
         }
-        if !["blank", "terms-blank"].contains(&name) {
+        if !["blank", "terms-blank", "import"].contains(&name) {
             let mut words = vec![name, "--force"];
             words.resize(2 + operands, "0");
             run(&words).failed(64, "no option --force");
@@ -72,13 +72,13 @@ fn an_empty_name_is_shown() {
         &["list", ""][..],
         &["clear", "", "0"],
         &["blank", "/dev/null", "1", "64", "1", ""],
-        &["keys", "", "64"],
         &["read", "/dev/null", "0", ""],
     ] {
-        run(words).failed(74, "captions: \"\": No such file");
+        run(words).failed(66, "captions: \"\": No such file");
     }
+    run(&["keys", "", "64"]).failed(73, "captions: \"\": No such file");
     run(&words!["blank", "", "1", "64", "1", shared_keys(8)])
-        .failed(74, "captions: \"\": No such file");
+        .failed(73, "captions: \"\": No such file");
     run(&[""]).failed(64, "no command \"\"");
     run(&["clear", "", ""]).failed(64, "SLOT is a decimal number, not \"\"");
 }
@@ -95,7 +95,7 @@ fn a_double_dash_ends_the_options() {
     at(&["keys", "64", "--", "--keys"]).failed(64, "BITS is a decimal number, not --keys");
     at(&["keys", "--", "--", "64"]).done();
     at(&["blank", "--", "--sheet", "1", "64", "1", "--"]).done();
-    at(&["blank", "--force", "--", "--sheet", "2", "64", "1", "--"]).done();
+    at(&["blank", "--force", "--", "--sheet", "2", "64", "2", "--"]).done();
     at(&["list", "--", "--sheet"]).printed(b"slots 2 key 64 last 0\n0 blank\n1 blank\n");
     at(&["list", "--sheet"]).failed(64, "no option --sheet");
     assert_eq!(scratch.names(), ["--", "--sheet"]);

@@ -47,12 +47,22 @@ fn finished(child: Child) -> Run {
 fn changes(scratch: &Scratch) -> Vec<Vec<OsString>> {
     let (file, keys) = (scratch.join("sheet"), scratch.keys(8));
     let (table, terms) = (scratch.join("table"), scratch.join("terms"));
-    fs::write(&table, "slot\ttext\n0\tClock\n").unwrap();
+    fs::write(&table, "slot\ttext\twrite\tserial\n0\tClock\t1\t1\n").unwrap();
     fs::write(&terms, term_sheet(&[(36524, 0); 2])).unwrap();
     fs::write(&file, written(&blank_sheet(1, 4), 8, 0, b"Vase")).unwrap();
     vec![
         words!["blank", scratch.join("new"), "1", "64", "1", keys].to_vec(),
-        words!["blank", file, "1", "64", "1", keys, "--force"].to_vec(),
+        words![
+            "blank",
+            file,
+            "1",
+            "64",
+            "1",
+            keys,
+            "--force",
+            "--force-serial"
+        ]
+        .to_vec(),
         words!["write", file, "0", keys, "--text", "Clock"].to_vec(),
         words!["clear", file, "0"].to_vec(),
         words!["import", file, keys, "--file", table].to_vec(),
@@ -175,7 +185,17 @@ fn a_symbolic_link_that_is_turned_elsewhere() {
     for change in [
         words!["write", link, "0", keys, "--text", "Clock"].to_vec(),
         words!["clear", link, "0"].to_vec(),
-        words!["blank", link, "1", "64", "1", keys, "--force"].to_vec(),
+        words![
+            "blank",
+            link,
+            "1",
+            "64",
+            "1",
+            keys,
+            "--force",
+            "--force-serial"
+        ]
+        .to_vec(),
     ] {
         symlink("one/sheet", &link).unwrap();
         let (first, second) = (Locked::new(&one), Locked::new(&other));
@@ -239,7 +259,7 @@ fn a_file_that_vanishes_is_not_made_again() {
     let child = waiting(&words!["write", file, "0", keys, "--text", "Vase"]);
     fs::remove_file(&file).unwrap();
     drop(folder);
-    finished(child).failed(74, "No such file or directory");
+    finished(child).failed(66, "No such file or directory");
     assert_eq!(scratch.names(), ["keys-8"]);
 }
 
@@ -259,7 +279,8 @@ fn a_folder_that_vanishes() {
         let child = waiting(&change);
         fs::remove_dir_all(&folder).unwrap();
         drop(handle);
-        finished(child).failed(74, "No such file or directory");
+        let status = if change[0] == "blank" { 73 } else { 66 };
+        finished(child).failed(status, "No such file or directory");
         assert_eq!(scratch.names(), ["keys-8"]);
     }
 }
@@ -273,7 +294,7 @@ fn a_file_that_appears() {
     let child = waiting(&words!["blank", file, "1", "64", "1", shared_keys(8)]);
     fs::write(&file, "another's").unwrap();
     drop(folder);
-    finished(child).failed(74, "exists");
+    finished(child).failed(73, "exists");
     assert_eq!(fs::read(&file).unwrap(), b"another's");
 }
 

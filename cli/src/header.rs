@@ -1,0 +1,12 @@
+//! What the first bytes of a sheet say that its listing doesn't: the edition and
+//! the serial.
+
+/// The serial of a sheet; none where it is of edition 1, which has none. A changed
+/// edition byte doesn't hide it.
+pub fn serial(sheet: &[u8]) -> Option<u16> {
+    match sheet {
+        [_, _, _, 1, ..] => None,
+        [_, _, _, _, _, _, _, _, high, low, ..] => Some(u16::from_be_bytes([*high, *low])),
+        _ => None,
+    }
+}
