@@ -4,13 +4,12 @@ use crate::failure::Failure;
 use crate::input;
 use crate::terminal::{hint, prompt};
 use crate::words::Words;
-use captions::FIELD;
 use std::ffi::OsStr;
 use std::os::unix::ffi::OsStrExt;
 use std::path::Path;
 
-/// One byte more than a caption can have is enough for the library to refuse.
-const MOST_BYTES: usize = FIELD + 1;
+/// What is longer isn't read on, and so not counted.
+pub const MOST_COUNTED: usize = 1 << 20;
 
 /// The caption that the options give, or standard input.
 pub enum Source<'a> {
@@ -57,7 +56,7 @@ impl<'a> Source<'a> {
                 }
                 let input = input::of_file(path)?;
                 let name = input.name.clone();
-                (input.bytes(MOST_BYTES)?, name)
+                (input.bytes(MOST_COUNTED + 1)?, name)
             }
         };
         if bytes.is_empty() {

@@ -10,6 +10,7 @@ use crate::input;
 use crate::keys::{key_of_file, Keys};
 use crate::kind::Kind;
 use crate::listing::{self, Verified};
+use crate::reasons::Given;
 use crate::sheet_file;
 use crate::shown::shown;
 use crate::terminal::{hint, print, warn};
@@ -31,11 +32,11 @@ pub fn run(words: &[OsString]) -> Result<(), Failure> {
         Request::Run(page, words) => {
             run_command(page.name, &words).map_err(|failure| match failure {
                 Failure::Usage(message) => wrong_for(page, &message),
-                Failure::Refused(Refusal::NoSuchDate) => {
+                Failure::Refused(Refusal::NoSuchDate, _) => {
                     hint("a date is YYYY-MM-DD, from 2000-01-01 to 2099-12-31");
                     failure
                 }
-                Failure::Refused(Refusal::OtherKeys) => {
+                Failure::Refused(Refusal::OtherKeys, _) => {
                     hint(
                         "the sheet was blanked with other keys, or its serial or mark was changed",
                     );
@@ -74,7 +75,14 @@ fn blank(file: &Path, slots: &OsStr, bits: &OsStr, words: &Words) -> Result<(), 
     let keys = Path::new(words.operand(4));
     not_another(file, &[("KEYS", keys)])?;
     let keys = Keys::of_file(keys)?;
-    let sheet = blank_sheet(slots, bits, serial, &keys)?;
+    let given = Given {
+        keys: Some(&keys),
+        slots: Some(slots),
+        bits: Some(bits),
+        ..Given::default()
+    };
+    let sheet =
+        blank_sheet(slots, bits, serial, &keys).map_err(|refusal| given.refused(refusal))?;
     let force = words.has("--force");
     sheet_file::create(file, wait, &sheet, force, Kind::Sheet, |old| {
         let repeats = !words.has("--force-serial") && repeats_starts(old, serial, &keys);
@@ -97,10 +105,20 @@ fn write(file: &Path, slot: &OsStr, keys: &Path, words: &Words) -> Result<(), Fa
     let mut is_there = false;
     sheet_file::change(file, wait, |sheet| {
         is_there = !words.has("--again") && holds(sheet, &keys, slot, &caption);
-        if !is_there {
-            captions::write(&keys.sealing, &keys.checking, sheet, slot, &caption)?;
+        if is_there {
+            return Ok(());
         }
-        Ok(())
+        let written = captions::write(&keys.sealing, &keys.checking, sheet, slot, &caption);
+        written.map_err(|refusal| {
+            let given = Given {
+                sheet: Some(sheet),
+                keys: Some(&keys),
+                slot: Some(slot),
+                caption: Some(caption.len()),
+                ..Given::default()
+            };
+            given.refused(refusal)
+        })
     })?;
     if is_there {
         warn(&format!(
@@ -125,41 +143,76 @@ fn read(file: &Path, slot: &OsStr, keys: &Path, words: &Words) -> Result<(), Fai
     let keys = Keys::of_file(keys)?;
     let (sealing, checking) = (&keys.sealing, &keys.checking);
     let sheet = sheet_file::read(file)?;
+    let terms = terms.map(sheet_file::read).transpose()?;
     let mut window = [0; FIELD];
-    let length = match dated {
-        None => captions::read(sealing, checking, &sheet, slot, &mut window)?,
-        Some((terms, date)) => {
-            let terms = sheet_file::read(terms)?;
+    let read = match (&terms, dated) {
+        (Some(terms), Some((_, date))) => {
             // What is no date becomes a day that there isn't, so that the library
             // says which of its refusals comes first.
             let day = date::day_of(date).map_or(usize::MAX, usize::from);
-            captions::dated_read(sealing, checking, &sheet, &terms, slot, day, &mut window)?
+            captions::dated_read(sealing, checking, &sheet, terms, slot, day, &mut window)
         }
+        _ => captions::read(sealing, checking, &sheet, slot, &mut window),
     };
+    let given = Given {
+        sheet: Some(&sheet),
+        terms: terms.as_deref(),
+        keys: Some(&keys),
+        slot: Some(slot),
+        ..Given::default()
+    };
+    let length = read.map_err(|refusal| given.refused(refusal))?;
     print(window.get(..length).unwrap_or(&window))
 }
 
 fn clear(file: &Path, slot: &OsStr, words: &Words) -> Result<(), Failure> {
     let slot = number("SLOT", slot)?;
     sheet_file::change(file, wait(words)?, |sheet| {
-        Ok(captions::clear(sheet, slot)?)
+        captions::clear(sheet, slot).map_err(|refusal| {
+            let given = Given {
+                sheet: Some(sheet),
+                slot: Some(slot),
+                ..Given::default()
+            };
+            given.refused(refusal)
+        })
     })
 }
 
 fn list(file: &Path, words: &Words) -> Result<(), Failure> {
     let sheet = sheet_file::read(file)?;
+    let reason = listing::unfit(&sheet);
     match words.has("--json") {
-        true => print(listing::json(&sheet).as_bytes()),
-        false => print(&captions::list(&sheet)),
+        true => print(listing::json(&sheet, reason.as_deref()).as_bytes())?,
+        false => print(&captions::list(&sheet))?,
     }
+    if let Some(reason) = reason {
+        warn(&format!("unfit sheet: {reason}"));
+    }
+    Ok(())
 }
 
 fn verify(file: &Path, keys: &Path, words: &Words) -> Result<(), Failure> {
     one_from_standard_input(&[input::is_standard(file), input::is_standard(keys)])?;
     let keys = Keys::of_file(keys)?;
-    let verified = Verified::of_sheet(&sheet_file::read(file)?, &keys)?;
+    let sheet = sheet_file::read(file)?;
+    let verified = match Verified::of_sheet(&sheet, &keys) {
+        Ok(verified) => verified,
+        Err(refusal) => {
+            let given = Given {
+                sheet: Some(&sheet),
+                keys: Some(&keys),
+                ..Given::default()
+            };
+            if words.has("--json") {
+                let reason = given.reason(refusal);
+                print(listing::refused_json(&sheet, refusal, reason.as_deref()).as_bytes())?;
+            }
+            return Err(given.refused(refusal));
+        }
+    };
     let report = match words.has("--json") {
-        true => verified.json(),
+        true => verified.json(&sheet),
         false => verified.text(),
     };
     print(report.as_bytes())?;
@@ -192,21 +245,37 @@ fn import(file: &Path, keys: &Path, words: &Words) -> Result<(), Failure> {
 }
 
 fn keys(file: &Path, bits: &OsStr, words: &Words) -> Result<(), Failure> {
-    let keys = Keys::random(key_bytes(number("BITS", bits)?)?)?;
+    let bits = number("BITS", bits)?;
+    let given = Given {
+        bits: Some(bits),
+        ..Given::default()
+    };
+    let length = key_bytes(bits).map_err(|refusal| given.refused(refusal))?;
+    let keys = Keys::random(length)?;
     sheet_file::create_private(file, wait(words)?, keys.text().as_bytes())
 }
 
 fn terms(file: &Path, words: &Words) -> Result<(), Failure> {
     let sheet = sheet_file::read(file)?;
+    let reason = terms::unfit(&sheet);
     let text = match words.has("--json") {
-        true => terms::json(&sheet),
+        true => terms::json(&sheet, reason.as_deref()),
         false => terms::text(&sheet),
     };
-    print(text.as_bytes())
+    print(text.as_bytes())?;
+    if let Some(reason) = reason {
+        warn(&format!("unfit term sheet: {reason}"));
+    }
+    Ok(())
 }
 
 fn terms_blank(file: &Path, slots: &OsStr, words: &Words) -> Result<(), Failure> {
-    let sheet = terms::blank(number("SLOTS", slots)?)?;
+    let slots = number("SLOTS", slots)?;
+    let given = Given {
+        slots: Some(slots),
+        ..Given::default()
+    };
+    let sheet = terms::blank(slots).map_err(|refusal| given.refused(refusal))?;
     let (wait, force) = (wait(words)?, words.has("--force"));
     sheet_file::create(file, wait, &sheet, force, Kind::Terms, |_| None)
 }
@@ -217,14 +286,30 @@ fn terms_set(file: &Path, slot: &OsStr, words: &Words) -> Result<(), Failure> {
         true => Term::NEVER,
         false => term_of(words.operand(2), words.operand(3))?,
     };
-    sheet_file::change(file, wait, |sheet| Ok(terms::set(sheet, slot, term)?))
+    sheet_file::change(file, wait, |sheet| {
+        terms::set(sheet, slot, term).map_err(|refusal| {
+            let given = Given {
+                terms: Some(sheet),
+                slot: Some(slot),
+                ..Given::default()
+            };
+            given.refused(refusal)
+        })
+    })
 }
 
 fn bench(key: &Path, round: &OsStr, array: &OsStr) -> Result<(), Failure> {
     let (round, array) = (number("ROUND", round)?, array_of(array)?);
     let key = key_of_file(key)?;
     let mut block = [0; BLOCK];
-    captions::bench_block(&key, round, &array, &mut block)?;
+    let given = Given {
+        key: Some(&key),
+        round: Some(round),
+        array: Some(&array),
+        ..Given::default()
+    };
+    let found = captions::bench_block(&key, round, &array, &mut block);
+    found.map_err(|refusal| given.refused(refusal))?;
     print(format!("{}\n", hex::digits_of(&block)).as_bytes())
 }
 

@@ -5,6 +5,7 @@ use crate::header;
 use crate::input;
 use crate::keys::Keys;
 use crate::listing::Listing;
+use crate::reasons::Given;
 use crate::sheet_file;
 use crate::table::{self, Row, Rows, Taken};
 use crate::terminal::{print, prompt, warn};
@@ -30,7 +31,7 @@ pub fn export(file: &Path, keys: &Path) -> Result<(), Failure> {
                 text += &table::line_of(slot, caption.as_deref(), taken);
             }
             Err(Refusal::Altered(change)) => altered.push((slot, change)),
-            Err(refusal) => return Err(refusal.into()),
+            Err(refusal) => return Err(unusable(&sheet, &keys, refusal)),
         }
     }
     print(text.as_bytes())?;
@@ -51,6 +52,16 @@ fn state_of(slot: usize, sheet: &[u8], listing: Option<&Listing>) -> Taken {
         write: listing.map_or(0, |listing| listing.write_number(slot)),
         serial: header::serial(sheet).unwrap_or(0),
     }
+}
+
+/// A sheet or keys that can't be used at all.
+fn unusable(sheet: &[u8], keys: &Keys, refusal: Refusal) -> Failure {
+    let given = Given {
+        sheet: Some(sheet),
+        keys: Some(keys),
+        ..Given::default()
+    };
+    given.refused(refusal)
 }
 
 /// The caption of a slot; none if it is blank.
@@ -100,7 +111,7 @@ impl Import<'_> {
         // Keys or a sheet that can't be used at all are no line's fault.
         match caption_in(sheet, keys, 0) {
             Ok(_) | Err(Refusal::Altered(_)) => {}
-            Err(refusal) => return Err(refusal.into()),
+            Err(refusal) => return Err(unusable(sheet, keys, refusal)),
         }
         let before = sheet.to_vec();
         let listing = Listing::of_sheet(&before);
@@ -124,7 +135,7 @@ impl Import<'_> {
                     clears += 1;
                     report += &change;
                 }
-                Err(fault) => faults.push(row, fault),
+                Err(fault) => faults.push(row, fault, &before),
             }
         }
         faults.into_failure()?;
@@ -258,12 +269,21 @@ impl<'a> Faults<'a> {
         }
     }
 
-    fn push(&mut self, row: &Row, fault: LineFault) {
+    fn push(&mut self, row: &Row, fault: LineFault, sheet: &[u8]) {
         let slot = row.slot;
         let words = match fault {
             LineFault::Refused(refusal) => {
                 self.refusal.get_or_insert(refusal);
-                refusal.to_string()
+                let given = Given {
+                    sheet: Some(sheet),
+                    slot: Some(slot),
+                    caption: row.caption.as_ref().map(Vec::len),
+                    ..Given::default()
+                };
+                match given.reason(refusal) {
+                    Some(reason) => format!("{}: {reason}", refusal.word()),
+                    None => refusal.word().to_string(),
+                }
             }
             LineFault::Stale(words) => {
                 (self.is_form, self.is_stale) = (true, true);

@@ -1,5 +1,6 @@
 //! What can go wrong, with its exit status and its message.
 
+use crate::reasons::Given;
 use crate::shown::shown;
 use captions::Refusal;
 use std::fmt::Display;
@@ -20,8 +21,8 @@ const LOCKED: u8 = 75;
 const NOT_FLUSHED: u8 = 79;
 
 pub enum Failure {
-    /// The library refused.
-    Refused(Refusal),
+    /// The library refused; with what is known of it beside its word.
+    Refused(Refusal, Option<String>),
     /// Lines of a table can't be imported, each for the reason that its text
     /// gives; with the refusal, if that is why.
     Lines(Vec<String>, Option<Refusal>),
@@ -68,7 +69,7 @@ impl Failure {
     /// The exit status.
     pub fn status(&self) -> u8 {
         match self {
-            Failure::Refused(refusal) | Failure::Lines(_, Some(refusal)) => refusal.number(),
+            Failure::Refused(refusal, _) | Failure::Lines(_, Some(refusal)) => refusal.number(),
             Failure::Usage(_) => WRONG_USAGE,
             Failure::Data(_) | Failure::Lines(_, None) => WRONG_DATA,
             Failure::NoInput(_) => NO_INPUT,
@@ -80,14 +81,15 @@ impl Failure {
     }
 
     /// The lines for standard error. A refusal's last line is its number and
-    /// word alone, so that a script can take it as it is; where the refusal
-    /// points at a rule, the line before it says which.
+    /// word alone, so that a script can take it as it is; the line before it has
+    /// what else is known.
     pub fn message(&self) -> String {
         match self {
-            Failure::Refused(refusal) => match points(refusal) {
-                true => format!("captions: {refusal}\n{}", last_line(refusal)),
-                false => last_line(refusal),
-            },
+            Failure::Refused(refusal, Some(reason)) => {
+                let word = refusal.word();
+                format!("captions: {word}: {reason}\n{}", last_line(refusal))
+            }
+            Failure::Refused(refusal, None) => last_line(refusal),
             Failure::Lines(lines, refusal) => {
                 let lines = lines.iter().map(|line| format!("captions: {line}\n"));
                 lines.collect::<String>() + &refusal.as_ref().map(last_line).unwrap_or_default()
@@ -103,17 +105,12 @@ impl Failure {
     }
 }
 
-/// Whether a refusal says more than its word.
-fn points(refusal: &Refusal) -> bool {
-    refusal.to_string() != refusal.word()
-}
-
 fn last_line(refusal: &Refusal) -> String {
     format!("{} {}\n", refusal.number(), refusal.word())
 }
 
 impl From<Refusal> for Failure {
     fn from(refusal: Refusal) -> Failure {
-        Failure::Refused(refusal)
+        Given::default().refused(refusal)
     }
 }

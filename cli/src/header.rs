@@ -1,6 +1,11 @@
 //! What the first bytes of a sheet say that its listing doesn't: the edition and
 //! the serial.
 
+/// The edition of a sheet.
+pub fn edition(sheet: &[u8]) -> u8 {
+    sheet.get(3).copied().unwrap_or(0)
+}
+
 /// The serial of a sheet; none where it is of edition 1, which has none. A changed
 /// edition byte doesn't hide it.
 pub fn serial(sheet: &[u8]) -> Option<u16> {

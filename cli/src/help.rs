@@ -153,12 +153,14 @@ Makes a slot blank, without keys. A blank slot stays blank.
 Prints slot count, key bits and last write number, then a line for each slot:
 its number and \"blank\", or \"written\", write number and length. It needs no
 keys and tests no seal: captions verify does. A file that isn't a sheet is
-listed as \"unfit\", which is an answer: the exit status is 0.
+listed as \"unfit\", which is an answer: the exit status is 0. Why it is unfit is
+said on standard error.
 
 With --json it prints an object with the members fit (true or false), slots,
-key, last and list; list has an object for each slot, with the members slot,
-state (\"blank\" or \"written\"), write and length. What a blank slot or an unfit
-sheet doesn't have is null.
+key, last, edition, serial, cipher, reason and list; reason is why a sheet is
+unfit. list has an object for each slot, with the members slot, state (\"blank\"
+or \"written\"), write and length. What a blank slot, an unfit sheet or a sheet of
+edition 1, which has no serial, doesn't have is null.
 ",
         statuses: &[66],
     },
@@ -183,11 +185,13 @@ than those that the sheet was blanked with (exit status 14). An old sheet that
 was put back in the place of a newer one verifies as sound: compare the last
 write number with one that you noted elsewhere.
 
-With --json it prints an object with the members slots, key, last, sound, blank,
-altered and list; list has an object for each slot, with the members slot, state
-(\"sound\", \"blank\" or \"altered\"), write, length and reason. Write number and
-length of a slot that isn't sound are null; reason is what differs in an altered
-slot, else null.
+With --json it prints an object with the members fit, slots, key, last, edition,
+serial and cipher, as captions list has them, and sound, blank, altered,
+refusal, word, reason and list. Where the keys or the sheet are refused, it has
+the refusal's number, its word and the reason, and an empty list; else those are
+null. list has an object for each slot, with the members slot, state (\"sound\",
+\"blank\" or \"altered\"), write, length and reason. Write number and length of a
+slot that isn't sound are null; reason is what differs in an altered slot.
 ",
         statuses: &[1, 2, 4, 5, 10, 14, 65, 66],
     },
@@ -291,12 +295,12 @@ number, opening date and closing date, or \"never\":
     1 2026-05-01 2026-10-31
 
 A file that isn't a term sheet is printed as \"unfit\", which is an answer: the
-exit status is 0.
+exit status is 0. Why it is unfit is said on standard error.
 
-With --json it prints an object with the members fit (true or false), slots and
-list; list has an object for each slot, with the members slot, opening and
-closing. The dates of a slot that is never on show, and what an unfit term sheet
-doesn't have, are null.
+With --json it prints an object with the members fit (true or false), slots,
+reason and list; list has an object for each slot, with the members slot,
+opening and closing. The dates of a slot that is never on show, and what an
+unfit term sheet doesn't have, are null.
 ",
         statuses: &[66],
     },
@@ -520,7 +524,9 @@ edition 3 the mark covers the serial.
 
 Messages:
 Standard error has a line for every exit status but 0; a refusal's last line is
-its number and word alone. Warnings and hints are there too. Control characters
+its number and word alone, and the line before it has what else is known: the
+rule that is broken, or what was given and what is allowed. Warnings and hints
+are there too. Control characters
 in a file's name are shown as escapes. A reader that closes the pipe early, as
 head does, is no error.
 ";

@@ -3,9 +3,11 @@
 
 use crate::failure::Failure;
 use crate::hex;
-use crate::input::{self, Input};
+use crate::input;
+use crate::kind::Kind;
 use crate::system;
 use crate::terminal::warn;
+use std::fs::Metadata;
 use std::os::unix::fs::MetadataExt;
 use std::path::Path;
 
@@ -81,12 +83,21 @@ fn keys_of_file<const LINES: usize>(
     form: &Form<LINES>,
 ) -> Result<[Vec<u8>; LINES], Failure> {
     let input = input::of_file(path)?;
-    let name = input.name.clone();
-    warn_if_open_to_all(&input, form.all);
+    let (name, metadata) = (input.name.clone(), input.file.metadata());
     let text = input.bytes(MOST_BYTES + 1)?;
     // The message gives the line and what is wrong there: no part of a key
     // is ever shown.
-    keys_of_text(&text, form).map_err(|fault| Failure::Data(format!("{name}: {fault}")))
+    let keys = keys_of_text(&text, form).map_err(|fault| {
+        let message = match Kind::of(&text) {
+            kind @ (Kind::Sheet | Kind::Terms) => format!("{}, not {}", kind.name(), form.all),
+            _ => fault,
+        };
+        Failure::Data(format!("{name}: {message}"))
+    })?;
+    if let Ok(metadata) = metadata {
+        warn_if_open_to_all(&name, &metadata, form.all);
+    }
+    Ok(keys)
 }
 
 fn keys_of_text<const LINES: usize>(
@@ -120,10 +131,7 @@ fn keys_of_text<const LINES: usize>(
 
 /// Says so where every user of the machine could learn the keys, or put others
 /// in their place. A group may share them.
-fn warn_if_open_to_all(input: &Input, keys: &str) {
-    let Ok(metadata) = input.file.metadata() else {
-        return;
-    };
+fn warn_if_open_to_all(name: &str, metadata: &Metadata, keys: &str) {
     let open = match metadata.mode() & 0o006 {
         _ if !metadata.is_file() => return,
         0o004 => "read",
@@ -131,7 +139,6 @@ fn warn_if_open_to_all(input: &Input, keys: &str) {
         0o006 => "read and written",
         _ => return,
     };
-    let name = &input.name;
     warn(&format!(
         "{name}: the {keys} can be {open} by every user: chmod 600 ends that"
     ));

@@ -1,7 +1,9 @@
 //! What a sheet holds, as text and as JSON. Both say what the library's own
 //! listing says.
 
+use crate::header;
 use crate::keys::Keys;
+use crate::reasons::Given;
 use captions::{Change, Fault, Refusal, FIELD};
 
 /// The library's listing, taken apart.
@@ -50,21 +52,63 @@ fn mark_of_line(line: &str) -> Option<Option<(u32, u32)>> {
     }
 }
 
-/// The listing as JSON. Every object has all its members; what isn't there is
-/// null.
-pub fn json(sheet: &[u8]) -> String {
-    let Some(listing) = Listing::of_sheet(sheet) else {
-        let header = r#"{"fit":false,"slots":null,"key":null,"last":null"#;
-        return with_list(header, Vec::new());
+/// Why a sheet is unfit, in words; none where it is fit.
+pub fn unfit(sheet: &[u8]) -> Option<String> {
+    let given = Given {
+        sheet: Some(sheet),
+        ..Given::default()
     };
-    let (slots, key, last) = (listing.slots, listing.key, listing.last);
-    let header = format!(r#"{{"fit":true,"slots":{slots},"key":{key},"last":{last}"#);
+    let fault = captions::first_fault(sheet)?;
+    given.reason(Refusal::UnfitSheet(fault))
+}
+
+/// The listing as JSON, with the reason if it is unfit. Every object has all its
+/// members; what isn't there is null.
+pub fn json(sheet: &[u8], reason: Option<&str>) -> String {
+    let listing = Listing::of_sheet(sheet);
+    let (members, reason) = (members(sheet, listing.as_ref()), in_json(reason));
+    let header = format!("{{{members},\"reason\":{reason}");
+    let Some(listing) = listing else {
+        return with_list(&header, Vec::new());
+    };
     let marks = listing.marks.iter().enumerate();
     let slots = marks.map(|(slot, mark)| {
         let state = if mark.is_some() { "written" } else { "blank" };
         slot_json(slot, state, *mark)
     });
     with_list(&header, slots.collect())
+}
+
+/// The members that every object about a sheet begins with.
+fn members(sheet: &[u8], listing: Option<&Listing>) -> String {
+    let Some(Listing {
+        slots, key, last, ..
+    }) = listing
+    else {
+        return r#""fit":false,"slots":null,"key":null,"last":null,"edition":null,"serial":null,"cipher":null"#
+            .to_string();
+    };
+    let edition = header::edition(sheet);
+    let serial = header::serial(sheet).map_or("null".to_string(), |serial| serial.to_string());
+    let start = format!(r#""fit":true,"slots":{slots},"key":{key},"last":{last}"#);
+    format!(r#"{start},"edition":{edition},"serial":{serial},"cipher":"mCrypton""#)
+}
+
+/// Words as JSON. None of the command's has a character that JSON would escape.
+pub fn in_json(words: Option<&str>) -> String {
+    words.map_or("null".to_string(), |words| format!("\"{words}\""))
+}
+
+/// What `verify --json` prints of a sheet or keys that can't be used at all.
+pub fn refused_json(sheet: &[u8], refusal: Refusal, reason: Option<&str>) -> String {
+    let members = members(sheet, Listing::of_sheet(sheet).as_ref());
+    let (number, word) = (refusal.number(), in_json(Some(refusal.word())));
+    let counts = r#""sound":null,"blank":null,"altered":null"#;
+    let refused = format!(
+        r#""refusal":{number},"word":{word},"reason":{}"#,
+        in_json(reason)
+    );
+    with_list(&format!("{{{members},{counts},{refused}"), Vec::new())
 }
 
 fn slot_json(slot: usize, state: &str, mark: Option<(u32, u32)>) -> String {
@@ -75,10 +119,9 @@ fn slot_json(slot: usize, state: &str, mark: Option<(u32, u32)>) -> String {
     format!(r#"{{"slot":{slot},"state":"{state}","write":{write},"length":{length}}}"#)
 }
 
-/// A slot's object with what is altered as one more member. The words have no
-/// character that JSON would escape.
+/// A slot's object with what is altered as one more member.
 fn with_reason(slot: String, change: Option<&Change>) -> String {
-    let reason = change.map_or("null".to_string(), |change| format!("\"{change}\""));
+    let reason = in_json(change.map(Change::to_string).as_deref());
     let members = slot.trim_end_matches('}');
     format!(r#"{members},"reason":{reason}}}"#)
 }
@@ -152,14 +195,12 @@ impl Verified {
         report + &format!("slots {slots} sound {sound} blank {blank} altered {altered}\n")
     }
 
-    pub fn json(&self) -> String {
-        let Listing {
-            slots, key, last, ..
-        } = self.listing;
+    pub fn json(&self, sheet: &[u8]) -> String {
+        let members = members(sheet, Some(&self.listing));
         let [sound, blank, altered] = self.counts();
-        let header = format!(
-            r#"{{"slots":{slots},"key":{key},"last":{last},"sound":{sound},"blank":{blank},"altered":{altered}"#
-        );
+        let counts = format!(r#""sound":{sound},"blank":{blank},"altered":{altered}"#);
+        let refused = r#""refusal":null,"word":null,"reason":null"#;
+        let header = format!("{{{members},{counts},{refused}");
         let states = self.states.iter().zip(&self.listing.marks).enumerate();
         let slots = states.map(|(slot, (state, mark))| match state {
             State::Sound(_) => with_reason(slot_json(slot, "sound", *mark), None),

@@ -22,6 +22,7 @@ mod kind;
 mod listing;
 mod lock;
 mod place;
+mod reasons;
 mod sheet_file;
 mod shown;
 mod system;

@@ -4,7 +4,8 @@
 
 use crate::blank_sheet::{any_keys, blank_sheet};
 use crate::keys::Keys;
-use crate::listing::with_list;
+use crate::listing::{in_json, with_list};
+use crate::reasons;
 use captions::{date_of_day, Date, Fault, Refusal, FIELD, LAST_DAY};
 
 /// When a slot is on show.
@@ -68,12 +69,22 @@ pub fn text(sheet: &[u8]) -> String {
     text
 }
 
+/// Why a term sheet is unfit; none where it is fit.
+pub fn unfit(sheet: &[u8]) -> Option<String> {
+    match terms_in(sheet) {
+        Some(_) => None,
+        None => Some(reasons::unfit_terms(sheet)),
+    }
+}
+
 /// The same as JSON. Every object has all its members; what isn't there is null.
-pub fn json(sheet: &[u8]) -> String {
+pub fn json(sheet: &[u8], reason: Option<&str>) -> String {
+    let reason = in_json(reason);
     let Some(terms) = terms_in(sheet) else {
-        return with_list(r#"{"fit":false,"slots":null"#, Vec::new());
+        let header = format!(r#"{{"fit":false,"slots":null,"reason":{reason}"#);
+        return with_list(&header, Vec::new());
     };
-    let header = format!(r#"{{"fit":true,"slots":{}"#, terms.len());
+    let header = format!(r#"{{"fit":true,"slots":{},"reason":{reason}"#, terms.len());
     let slots = terms.iter().enumerate().map(|(slot, term)| {
         let (opening, closing) = match term.dates() {
             Some((opening, closing)) => (format!("\"{opening}\""), format!("\"{closing}\"")),

@@ -151,9 +151,11 @@ fn list_prints_the_second_programs_listing() {
         &[0; 1 << 20],
     ] {
         fs::write(&file, sheet).unwrap();
-        run(&words!["list", file]).printed(&reference::listing(sheet));
+        let list = run(&words!["list", file]);
+        assert_eq!((list.status, list.stdout), (0, reference::listing(sheet)));
     }
-    run(&["list", "/dev/zero"]).printed(b"unfit\n");
+    let list = run(&["list", "/dev/zero"]);
+    assert_eq!((list.status, list.stdout.as_slice()), (0, &b"unfit\n"[..]));
 }
 
 #[test]

@@ -1,5 +1,6 @@
 //! The listing and the verification as JSON.
 
+use crate::edition::Edition;
 use crate::support::*;
 use crate::words;
 use std::fs;
@@ -11,17 +12,18 @@ fn a_listing_as_json() {
     let sheet = written(&blank_sheet(3, 8), 16, 1, b"Clock");
     fs::write(&file, written(&sheet, 16, 2, b"")).unwrap();
     run(&words!["list", file, "--json"]).printed(
-        br#"{"fit":true,"slots":3,"key":128,"last":2,"list":[
+        br#"{"fit":true,"slots":3,"key":128,"last":2,"edition":3,"serial":1,"cipher":"mCrypton","reason":null,"list":[
 {"slot":0,"state":"blank","write":null,"length":null},
 {"slot":1,"state":"written","write":1,"length":5},
 {"slot":2,"state":"written","write":2,"length":0}
 ]}
 "#,
     );
-    fs::write(&file, "not a sheet").unwrap();
-    run(&words!["list", "--json", file]).printed(
-        br#"{"fit":false,"slots":null,"key":null,"last":null,"list":[
-
+    // A sheet of edition 1 has no serial.
+    fs::write(&file, Edition::One.blank_sheet(1, 4)).unwrap();
+    run(&words!["list", file, "--json"]).printed(
+        br#"{"fit":true,"slots":1,"key":64,"last":0,"edition":1,"serial":null,"cipher":"mCrypton","reason":null,"list":[
+{"slot":0,"state":"blank","write":null,"length":null}
 ]}
 "#,
     );
@@ -35,7 +37,7 @@ fn a_verification_as_json() {
     let mut sheet = written(&sheet, 8, 2, b"Vase");
     fs::write(&file, &sheet).unwrap();
     run(&words!["verify", file, keys, "--json"]).printed(
-        br#"{"slots":3,"key":64,"last":2,"sound":2,"blank":1,"altered":0,"list":[
+        br#"{"fit":true,"slots":3,"key":64,"last":2,"edition":3,"serial":1,"cipher":"mCrypton","sound":2,"blank":1,"altered":0,"refusal":null,"word":null,"reason":null,"list":[
 {"slot":0,"state":"blank","write":null,"length":null,"reason":null},
 {"slot":1,"state":"sound","write":1,"length":5,"reason":null},
 {"slot":2,"state":"sound","write":2,"length":4,"reason":null}
@@ -48,7 +50,7 @@ fn a_verification_as_json() {
     assert_eq!((run.status, run.stderr.as_str()), (10, "10 altered\n"));
     assert_eq!(
         String::from_utf8(run.stdout).unwrap(),
-        r#"{"slots":3,"key":64,"last":2,"sound":1,"blank":1,"altered":1,"list":[
+        r#"{"fit":true,"slots":3,"key":64,"last":2,"edition":3,"serial":1,"cipher":"mCrypton","sound":1,"blank":1,"altered":1,"refusal":null,"word":null,"reason":null,"list":[
 {"slot":0,"state":"blank","write":null,"length":null,"reason":null},
 {"slot":1,"state":"altered","write":null,"length":null,"reason":"the check differs"},
 {"slot":2,"state":"sound","write":2,"length":4,"reason":null}

@@ -15,6 +15,7 @@ mod leftovers;
 mod listing;
 mod no_work_lost;
 mod one_pair;
+mod reasons;
 mod refusals;
 mod streams;
 mod support;

@@ -66,7 +66,6 @@ impl Place {
         } = self;
         let mut commands = vec![
             words!["verify", file, keys].to_vec(),
-            words!["verify", file, keys, "--json"].to_vec(),
             words!["export", file, keys].to_vec(),
             words!["import", file, keys, "--file", table].to_vec(),
             words!["import", file, keys, "--file", table, "--dry-run"].to_vec(),
@@ -148,7 +147,7 @@ fn where_other_keys_stand_among_the_refusals() {
     refused(&on("2026-02-29"), b"", file, 11, "no such date");
     refused(&on("2026-02-28"), b"", file, 14, "other keys");
     fs::write(terms, b"").unwrap();
-    let unfit = "unfit sheet: the term sheet does not fit";
+    let unfit = "unfit sheet: the term sheet does not fit: it is an empty file";
     refused(&on("2026-02-28"), b"", file, 4, unfit);
 }
 

@@ -206,15 +206,15 @@ impl Run {
         self.printed(b"");
     }
 
-    /// Refused: number and word on the last line. Before it stands the rule that
-    /// gave an unfit sheet or an altered slot, whichever it is if the words name
-    /// none; else nothing.
+    /// Refused: number and word on the last line. Before it stands what is known
+    /// of the refusals that have something to know, whatever it is if the words
+    /// name none; else nothing.
     #[track_caller]
     pub fn refused(self, number: i32, words: &str) {
         let word = words.split(": ").next().unwrap();
         let last = format!("{number} {word}\n");
         match (number, word == words) {
-            (4 | 10, true) => {
+            (1 | 3 | 4 | 5 | 6 | 7 | 10 | 13, true) => {
                 let rule = self.stderr.strip_suffix(&last);
                 let rule = rule.and_then(|rule| rule.strip_prefix("captions: "));
                 let rule = rule.and_then(|rule| rule.strip_prefix(word));

@@ -356,7 +356,7 @@ fn a_refused_line_is_named_and_nothing_is_written() {
     place.refuses(
         table("3\tC"),
         6,
-        "captions: standard input: line 4: slot 3: no such slot\n6 no such slot\n",
+        "captions: standard input: line 4: slot 3: no such slot: 3, where the sheet has 0 to 2\n6 no such slot\n",
     );
     let far = "99999999999999999999999\tC";
     place.refuses(table(far), 6, "\n6 no such slot\n");
@@ -364,7 +364,7 @@ fn a_refused_line_is_named_and_nothing_is_written() {
     place.refuses(
         table(&overlong),
         7,
-        "captions: standard input: line 4: slot 2: overlong\n7 overlong\n",
+        "captions: standard input: line 4: slot 2: overlong: 193 bytes, where a caption has at most 192\n7 overlong\n",
     );
     place
         .import(table(&format!("2\t{}", "é".repeat(96))))
@@ -515,6 +515,97 @@ fn tables_that_are_not_in_their_form() {
     // A carriage return at the end of a line is the line's, elsewhere a text's.
     place.import("slot\ttext\r\n0\ta\rb\r\n").done();
     run(&words!["read", place.file, "0", place.keys]).printed(b"a\rb");
+}
+
+/// All of them in one run, whatever is wrong with each, and nothing is imported.
+#[test]
+fn every_bad_line_is_named_in_one_run() {
+    let mut sheet = written(&three_slots(), 8, 1, b"Clock");
+    sheet[EDITION.field_place(3, 1)][0] ^= 1;
+    let place = Place::new(&sheet);
+    let overlong = "x".repeat(200);
+    let table = format!(
+        "slot\ttext\n\
+         0\tA\n\
+         x\tB\n\
+         3\tC\n\
+         2\t{overlong}\n\
+         1\tD\n\
+         0\ta\\q\n\
+         4\t\"E\n\
+         5\t\"F\" G\n\
+         0\tH\n\
+         2\t\n\
+         6\tI\tJ\n"
+    );
+    let lines = [
+        "line 3: the slot isn't a decimal number",
+        "line 4: slot 3: no such slot: 3, where the sheet has 0 to 2",
+        "line 5: slot 2: overlong: 200 bytes, where a caption has at most 192",
+        "line 6: slot 1: altered: the check differs",
+        "line 7: a backslash that begins none of \\t \\n \\r \\\\ \\& \\x00; \\\\ is a backslash",
+        "line 8: text after a closing quotation mark",
+        "line 9: text after a closing quotation mark",
+        "line 10: slot 0 stands in line 2 too",
+        "line 11: slot 2 stands in line 5 too",
+        "line 11: slot 2: no text, but it has a caption; --clear makes it blank, \\& empty",
+        "line 12: a third column; a tab in a text is written \\t",
+    ];
+    let lines = lines.map(|line| format!("captions: standard input: {line}\n"));
+    let before = place.sheet();
+    for options in [&[][..], &["--dry-run"], &["--force"]] {
+        let run = place.import_with(options, &table);
+        assert_eq!((run.status, run.stderr), (65, lines.concat()));
+        assert_eq!(
+            (run.stdout.as_slice(), place.sheet()),
+            (&b""[..], before.clone())
+        );
+    }
+    // By the library alone: its number is the first refused line's.
+    let run = place.import_with(&[], format!("slot\ttext\n2\t{overlong}\n3\tC\n"));
+    assert_eq!(run.status, 7);
+    let last = "line 3: slot 3: no such slot: 3, where the sheet has 0 to 2\n7 overlong\n";
+    assert!(run.stderr.ends_with(last), "{}", run.stderr);
+    assert_eq!(run.stderr.lines().count(), 3);
+}
+
+/// What a spreadsheet saves in another form is told by its name, with what to do.
+#[test]
+fn a_table_saved_in_another_form() {
+    let place = Place::new(&three_slots());
+    for (name, table, words) in [
+        (
+            "table.csv",
+            &b"slot,text\n0,Vase\n"[..],
+            "commas between its columns",
+        ),
+        (
+            "table.csv",
+            b"\"slot\",\"text\"\r\n0,\"Vase, 1751\"\r\n",
+            "commas between",
+        ),
+        (
+            "table.csv",
+            b"\xef\xbb\xbfslot;text;write;serial\n0;Vase;1;1\n",
+            "semicolons between",
+        ),
+        (
+            "table.xlsx",
+            b"PK\x03\x04\x14\0\x06\0",
+            "a spreadsheet's own file",
+        ),
+    ] {
+        let file = place.scratch.join(name);
+        fs::write(&file, table).unwrap();
+        let words = format!("{name}: {words}");
+        let import = run(&words!["import", place.file, place.keys, "--file", file]);
+        assert!(
+            import.stderr.ends_with("; save it as tab-separated text\n"),
+            "{}",
+            import.stderr
+        );
+        import.failed(65, &words);
+    }
 }
 
 /// Any bytes at all in the place of a table: a status, never a panic, and a

@@ -105,7 +105,13 @@ fn a_hint_is_for_a_terminal_alone() {
     // A refused caption gets no hint.
     let refused = words!["write", file, "1", keys, "--file", caption];
     let (status, shown) = at_a_terminal(&refused, b"");
-    assert_eq!((status, shown.trim_end()), (6, "6 no such slot"));
+    assert_eq!(
+        (status, shown.trim_end()),
+        (
+            6,
+            "captions: no such slot: 1, where the sheet has 0 alone\r\n6 no such slot"
+        )
+    );
 }
 
 /// Dates are written in many ways: which one is taken is told at a terminal.

@@ -373,9 +373,20 @@ fn what_is_no_term_sheet_is_unfit() {
     for bytes in unfit_sheets() {
         fs::write(&terms, &bytes).unwrap();
         let before = fs::metadata(&terms).unwrap().ino();
-        run(&words!["terms", terms]).printed(b"unfit\n");
-        run(&words!["terms", terms, "--json"])
-            .printed(b"{\"fit\":false,\"slots\":null,\"list\":[\n\n]}\n");
+        let run_terms = run(&words!["terms", terms]);
+        assert_eq!(
+            (run_terms.status, &run_terms.stdout[..]),
+            (0, &b"unfit\n"[..])
+        );
+        let reason = run_terms
+            .stderr
+            .strip_prefix("captions: unfit term sheet: ");
+        let reason = reason.and_then(|reason| reason.strip_suffix('\n')).unwrap();
+        let json = run(&words!["terms", terms, "--json"]);
+        assert_eq!((json.status, &json.stderr), (0, &run_terms.stderr));
+        let expected =
+            format!("{{\"fit\":false,\"slots\":null,\"reason\":\"{reason}\",\"list\":[\n\n]}}\n");
+        assert_eq!(json.stdout, expected.as_bytes());
         run(&words!["terms-set", terms, "1", "--never"]).refused(4, "unfit sheet");
         run(&words!["terms-set", terms, "9", "2026-05-01", "2026-05-01"]).refused(4, "unfit sheet");
         let dated = words!["--terms", terms, "--on", "2026-05-01"];
@@ -384,7 +395,7 @@ fn what_is_no_term_sheet_is_unfit() {
         assert_eq!(fs::read(&terms).unwrap(), bytes);
         assert_eq!(fs::metadata(&terms).unwrap().ino(), before);
     }
-    run(&["terms", "/dev/zero"]).printed(b"unfit\n");
+    assert_eq!(run(&["terms", "/dev/zero"]).stdout, b"unfit\n");
 }
 
 /// A term sheet that is fit, but another sheet's.
@@ -448,7 +459,7 @@ fn terms_as_json() {
     let scratch = Scratch::new();
     let terms = Loan::new(&scratch).terms;
     run(&words!["terms", terms, "--json"]).printed(
-        br#"{"fit":true,"slots":3,"list":[
+        br#"{"fit":true,"slots":3,"reason":null,"list":[
 {"slot":0,"opening":"2000-01-01","closing":"2099-12-31"},
 {"slot":1,"opening":"2026-05-01","closing":"2026-10-31"},
 {"slot":2,"opening":null,"closing":null}
