@@ -32,12 +32,13 @@ check:
 
 install:
 	@case "$(PREFIX)" in /*) ;; *) echo "make install: PREFIX is an absolute path" >&2; exit 1 ;; esac
-	@packaging/build library command pages
+	@packaging/build library shared command pages
 	umask 022 && $(INSTALL) -d "$(DESTDIR)$(BINDIR)" "$(DESTDIR)$(INCLUDEDIR)" "$(DESTDIR)$(PKGCONFIGDIR)" \
 	    "$(DESTDIR)$(MANDIR)" "$(DESTDIR)$(BASHDIR)" "$(DESTDIR)$(ZSHDIR)"
 	$(INSTALL) -m 755 build/captions "$(DESTDIR)$(BINDIR)/captions"
 	$(INSTALL) -m 644 include/captions.h "$(DESTDIR)$(INCLUDEDIR)/captions.h"
 	$(INSTALL) -m 644 build/libcaptions_c.a "$(DESTDIR)$(LIBDIR)/libcaptions_c.a"
+	$(INSTALL) -m 644 build/libcaptions_c.so "$(DESTDIR)$(LIBDIR)/$$(packaging/build soname)"
 	umask 022 && packaging/pkg-config "$(PREFIX)" "$(INCLUDEDIR)" "$(LIBDIR)" >"$(DESTDIR)$(PKGCONFIGDIR)/captions.pc"
 	$(INSTALL) -m 644 build/captions.1 "$(DESTDIR)$(MANDIR)/captions.1"
 	$(INSTALL) -m 644 build/completions/captions "$(DESTDIR)$(BASHDIR)/captions"
@@ -45,7 +46,8 @@ install:
 
 uninstall:
 	rm -f "$(DESTDIR)$(BINDIR)/captions" "$(DESTDIR)$(INCLUDEDIR)/captions.h" \
-	    "$(DESTDIR)$(LIBDIR)/libcaptions_c.a" "$(DESTDIR)$(PKGCONFIGDIR)/captions.pc" \
+	    "$(DESTDIR)$(LIBDIR)/libcaptions_c.a" "$(DESTDIR)$(LIBDIR)/$$(packaging/build soname)" \
+	    "$(DESTDIR)$(PKGCONFIGDIR)/captions.pc" \
 	    "$(DESTDIR)$(MANDIR)/captions.1" "$(DESTDIR)$(BASHDIR)/captions" "$(DESTDIR)$(ZSHDIR)/_captions"
 
 clean:

@@ -1,7 +1,8 @@
 /* Caption sheets: the C interface of the proved library.
  *
  * Link libcaptions_c.a: `make` puts it into build/, and where it is installed
- * `pkg-config --cflags --libs captions` names it. It is for Linux on x86-64.
+ * `pkg-config --cflags --libs captions` names it. There is a shared library too,
+ * libcaptions_c.so.0.6, for languages that load one. It is for Linux on x86-64.
  *
  * The library takes any length and any number: what it can't use, it refuses.
  * It can't see whether a pointer is good, so every caller owes this:
@@ -24,6 +25,12 @@
 #ifdef __cplusplus
 extern "C" {
 #endif
+
+/* The version of this header, and that of the library that is linked. The two
+ * are meant to be equal; where they aren't, a call may not be as it is declared
+ * here. The text is the library's own and stays. */
+#define CAPTIONS_VERSION "0.6.0"
+const char *captions_version(void);
 
 /* What a call answers: number is CAPTIONS_ACCEPTED or a refusal; length is 0,
  * except for an accepted read, dated or not, where it is the caption's. */
@@ -69,6 +76,22 @@ enum {
                                       the caption's length that isn't zero */
     CAPTIONS_RULE_TERMS = 12       /* the term sheet, where the sheet is fit */
 };
+
+/* The words of each rule, for a table of strings:
+ *     static const char *const rule_words[] = CAPTIONS_RULE_WORDS;
+ * Those of rules 7 to 11 are about the slot that the answer points at. */
+#define CAPTIONS_RULE_WORDS                                                    \
+    {                                                                          \
+        "no rule", "fewer than 8 bytes", "not 1 to 256 slots (bytes 0 and 1)", \
+            "not 4, 6 or 8 key words (byte 2)",                                \
+            "not edition 1, 2 or 3 (byte 3)",                                  \
+            "a byte of the header that is not zero",                           \
+            "another length than so many slots have",                          \
+            "no write number, or one above the sheet's last",                  \
+            "a length above 192", "a byte of its mark that is not zero",       \
+            "the check differs", "a byte behind the caption that is not zero", \
+            "the term sheet does not fit"                                      \
+    }
 
 /* What a conversion answers: number is CAPTIONS_ACCEPTED or
  * CAPTIONS_NO_SUCH_DATE, and then all else is 0. Day 0 is a true answer too, so
@@ -257,6 +280,107 @@ captions_pointed captions_dated_read(
     const uint8_t *sheet, size_t sheet_len,
     const uint8_t *terms, size_t terms_len, size_t slot, size_t day,
     uint8_t *window, size_t window_len);
+
+/* Term sheets, made, set and asked, so that nobody need write their bytes. They
+ * are plain bytes and so plain code, here and not in the library; the tests hold
+ * it to captions_dated_read. */
+
+/* A number of two bytes by its place in a term sheet. */
+static inline size_t captions_terms_number(const uint8_t *terms, size_t place)
+{
+    return (size_t)terms[2 * place] << 8 | terms[2 * place + 1];
+}
+
+static inline void captions_terms_put(uint8_t *terms, size_t place,
+                                      size_t number)
+{
+    terms[2 * place] = (uint8_t)(number >> 8);
+    terms[2 * place + 1] = (uint8_t)number;
+}
+
+static inline captions_answer captions_terms_answer(int number)
+{
+    captions_answer answer;
+    answer.number = (uint8_t)number;
+    answer.length = 0;
+    return answer;
+}
+
+/* The slot count of a term sheet that is fit, else 0. */
+static inline size_t captions_terms_slots(const uint8_t *terms,
+                                          size_t terms_len)
+{
+    size_t slots = terms_len < 2 ? 0 : captions_terms_number(terms, 0);
+    size_t i;
+
+    if (slots < 1 || slots > CAPTIONS_SLOTS ||
+        terms_len != CAPTIONS_TERMS(slots))
+        return 0;
+    for (i = 1; i <= 2 * slots; i++)
+        if (captions_terms_number(terms, i) > CAPTIONS_LAST_DAY)
+            return 0;
+    return slots;
+}
+
+/* Makes the bytes of terms, CAPTIONS_TERMS(slots), a term sheet by which no slot
+ * is ever on show. What the bytes were doesn't matter. Refusal: WRONG_SPAN. */
+static inline captions_answer captions_terms_blank(uint8_t *terms,
+                                                   size_t terms_len,
+                                                   size_t slots)
+{
+    size_t i;
+
+    if (slots < 1 || slots > CAPTIONS_SLOTS ||
+        terms_len != CAPTIONS_TERMS(slots))
+        return captions_terms_answer(CAPTIONS_WRONG_SPAN);
+    captions_terms_put(terms, 0, slots);
+    for (i = 1; i <= slots; i++) {
+        captions_terms_put(terms, i, CAPTIONS_LAST_DAY);
+        captions_terms_put(terms, slots + i, 0);
+    }
+    return captions_terms_answer(CAPTIONS_ACCEPTED);
+}
+
+/* Sets the days from which and to which a slot is on show, both included. Where
+ * opening is above closing it never is.
+ * Refusals: UNFIT_SHEET, NO_SUCH_DATE, NO_SUCH_SLOT. */
+static inline captions_answer captions_terms_set(uint8_t *terms,
+                                                 size_t terms_len, size_t slot,
+                                                 size_t opening,
+                                                 size_t closing)
+{
+    size_t slots = captions_terms_slots(terms, terms_len);
+
+    if (slots == 0)
+        return captions_terms_answer(CAPTIONS_UNFIT_SHEET);
+    if (opening > CAPTIONS_LAST_DAY || closing > CAPTIONS_LAST_DAY)
+        return captions_terms_answer(CAPTIONS_NO_SUCH_DATE);
+    if (slot >= slots)
+        return captions_terms_answer(CAPTIONS_NO_SUCH_SLOT);
+    captions_terms_put(terms, 1 + slot, opening);
+    captions_terms_put(terms, 1 + slots + slot, closing);
+    return captions_terms_answer(CAPTIONS_ACCEPTED);
+}
+
+/* ACCEPTED where a slot is on show on that day, as captions_dated_read judges
+ * it. Refusals: UNFIT_SHEET, NO_SUCH_DATE, NO_SUCH_SLOT, NOT_ON_SHOW. */
+static inline captions_answer captions_terms_on_show(const uint8_t *terms,
+                                                     size_t terms_len,
+                                                     size_t slot, size_t day)
+{
+    size_t slots = captions_terms_slots(terms, terms_len);
+
+    if (slots == 0)
+        return captions_terms_answer(CAPTIONS_UNFIT_SHEET);
+    if (day > CAPTIONS_LAST_DAY)
+        return captions_terms_answer(CAPTIONS_NO_SUCH_DATE);
+    if (slot >= slots)
+        return captions_terms_answer(CAPTIONS_NO_SUCH_SLOT);
+    if (day < captions_terms_number(terms, 1 + slot) ||
+        day > captions_terms_number(terms, 1 + slots + slot))
+        return captions_terms_answer(CAPTIONS_NOT_ON_SHOW);
+    return captions_terms_answer(CAPTIONS_ACCEPTED);
+}
 
 /* Puts the listing of a sheet, lines of text with no zero byte after them,
  * into the first bytes of out and answers how many bytes it has; the bytes

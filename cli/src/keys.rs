@@ -159,7 +159,7 @@ fn bytes_of_line(line: &[u8]) -> Result<Vec<u8>, String> {
         };
         return Err(format!("{what} in column {}", place + 1));
     }
-    if line.len() % 2 != 0 {
+    if !line.len().is_multiple_of(2) {
         return Err(format!("an odd number of hex digits, {}", line.len()));
     }
     hex::bytes_of(line).ok_or_else(|| "not hex digits".to_string())

@@ -112,6 +112,7 @@ static int cannot(const char *name, int status)
 int main(int count, char **words)
 {
     static const char *const word[] = CAPTIONS_WORDS;
+    static const char *const rule_words[] = CAPTIONS_RULE_WORDS;
     static uint8_t sheet[SHEET_ROOM], terms[TERMS_ROOM];
     uint8_t sealing[KEY_ROOM], checking[KEY_ROOM], window[CAPTIONS_FIELD];
     size_t slot, sheet_len, terms_len, sealing_len, checking_len;
@@ -159,7 +160,8 @@ int main(int count, char **words)
     if (fflush(stdout) != 0 || ferror(stdout))
         return cannot("standard output", 74);
     if (answer.rule != CAPTIONS_RULE_NONE)
-        fprintf(stderr, "rule %d, slot %d, place %d\n", answer.rule,
-                answer.slot, answer.place);
+        fprintf(stderr, "%s (rule %d, slot %d, place %d)\n",
+                rule_words[answer.rule], answer.rule, answer.slot,
+                answer.place);
     return answer.number;
 }

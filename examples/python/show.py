@@ -22,6 +22,12 @@ HEX = rb"((?:[0-9a-fA-F]{2})*)"
 WORDS = ("accepted", "wrong key", "twin keys", "wrong span", "unfit sheet", "other key class",
          "no such slot", "overlong", "worn", "blank", "altered", "no such date", "not on show",
          "no such round", "other keys")
+RULE_WORDS = ("no rule", "fewer than 8 bytes", "not 1 to 256 slots (bytes 0 and 1)",
+              "not 4, 6 or 8 key words (byte 2)", "not edition 1, 2 or 3 (byte 3)",
+              "a byte of the header that is not zero", "another length than so many slots have",
+              "no write number, or one above the sheet's last", "a length above 192",
+              "a byte of its mark that is not zero", "the check differs",
+              "a byte behind the caption that is not zero", "the term sheet does not fit")
 
 
 class Pointed(ctypes.Structure):
@@ -58,7 +64,8 @@ def read(name: str, *words) -> tuple[int, bytes]:
     window = ctypes.create_string_buffer(FIELD)
     answer = call(name, Pointed, *words, window)
     if answer.rule != 0:
-        print(f"rule {answer.rule}, slot {answer.slot}, place {answer.place}", file=sys.stderr)
+        print(f"{RULE_WORDS[answer.rule]} (rule {answer.rule}, slot {answer.slot}, "
+              f"place {answer.place})", file=sys.stderr)
     return answer.number, window.raw[: answer.length]
 
 

@@ -29,6 +29,7 @@ use std::fmt;
 /// );
 /// ```
 #[derive(Clone, Copy, Debug, PartialEq, Eq, Hash)]
+#[non_exhaustive]
 pub enum Fault {
     /// Rule 1: fewer bytes than any header has.
     Short {
@@ -254,6 +255,7 @@ impl fmt::Display for Fault {
 /// # Ok::<(), Refusal>(())
 /// ```
 #[derive(Clone, Copy, Debug, PartialEq, Eq, Hash)]
+#[non_exhaustive]
 pub enum Change {
     /// Rule 10: the check.
     Check {

@@ -3,9 +3,10 @@
 //! A sheet is a buffer of bytes with up to 256 slots, each blank or holding a
 //! caption of up to 192 bytes, sealed under one key and checked under another.
 //! One pair of keys serves a sheet, the pair that it was blanked with ([`blank`]).
-//! A term sheet beside it says when each slot is on show ([`dated_read`]).
-//! Everything that decides is in the proved library; this crate lends it slices
-//! and gives its answers Rust's types. Any length and any number may be given:
+//! A term sheet beside it says when each slot is on show ([`dated_read`],
+//! [`terms_set`]).
+//! Everything that decides about a sheet is in the proved library; this crate lends
+//! it slices and gives its answers Rust's types. Any length and any number may be given:
 //! what the library can't use, it refuses. Nothing here panics.
 //!
 //! ```
@@ -38,11 +39,13 @@ mod date;
 mod fault;
 mod library;
 mod refusal;
+mod terms;
 
 pub use date::Date;
 pub use fault::{Change, Fault};
 use library::{Answer, Pointed};
 pub use refusal::Refusal;
+pub use terms::{terms_blank, terms_on_show, terms_set};
 
 /// The bytes of a block or an array, and of an output.
 pub const BLOCK: usize = 8;
@@ -503,3 +506,66 @@ fn pointed(answer: Pointed, sheet: &[u8]) -> Result<u16, Refusal> {
 fn done(answer: Answer) -> Result<(), Refusal> {
     unless_refused(answer.number, ())
 }
+
+/// A `match` outside the crate wants an arm for refusals that are still to come.
+/// With it one compiles, and without it none does:
+///
+/// ```
+/// use captions::{Change, Fault, Refusal};
+///
+/// fn of_change(change: Change) -> u8 {
+///     match change {
+///         Change::Check { .. } => 10,
+///         Change::Byte { .. } => 11,
+///         Change::Unnamed => 0,
+///         _ => 255,
+///     }
+/// }
+/// # let _ = (of_change, Fault::Terms, Refusal::Worn);
+/// ```
+///
+/// ```compile_fail,E0004
+/// use captions::Change;
+///
+/// fn of_change(change: Change) -> u8 {
+///     match change {
+///         Change::Check { .. } => 10,
+///         Change::Byte { .. } => 11,
+///         Change::Unnamed => 0,
+///     }
+/// }
+/// ```
+///
+/// ```compile_fail,E0004
+/// use captions::Fault;
+///
+/// fn of_fault(fault: Fault) -> u8 {
+///     match fault {
+///         Fault::Short { .. } => 1,
+///         Fault::SlotCount { .. } => 2,
+///         Fault::KeyWords { .. } => 3,
+///         Fault::Edition { .. } => 4,
+///         Fault::HeaderByte { .. } => 5,
+///         Fault::Length { .. } => 6,
+///         Fault::WriteNumber { .. } => 7,
+///         Fault::CaptionLength { .. } => 8,
+///         Fault::MarkByte { .. } => 9,
+///         Fault::Terms => 12,
+///         Fault::Unnamed => 0,
+///     }
+/// }
+/// ```
+///
+/// ```compile_fail,E0004
+/// use captions::Refusal::{self, *};
+///
+/// fn of_refusal(refusal: Refusal) -> u8 {
+///     match refusal {
+///         WrongKey | TwinKeys | WrongSpan | UnfitSheet(_) | OtherKeyClass => 1,
+///         NoSuchSlot | Overlong | Worn | Blank | Altered(_) | NoSuchDate => 2,
+///         NotOnShow | NoSuchRound | OtherKeys | Other(_) => 3,
+///     }
+/// }
+/// ```
+#[cfg(doctest)]
+struct MatchesWantOneArmMore;

@@ -6,7 +6,8 @@ use std::fmt;
 
 /// Why a call was refused. Shown as the word that the kiosk shows instead of a
 /// caption, which [`word`](Refusal::word) gives alone; behind the word of an
-/// unfit sheet and of an altered slot stands the rule that gave it.
+/// unfit sheet and of an altered slot stands the rule that gave it. A later
+/// version may have more of them, so a `match` wants an arm for the others.
 ///
 /// ```
 /// use captions::{Change, Fault, Refusal};
@@ -21,6 +22,7 @@ use std::fmt;
 /// assert_eq!(Refusal::Worn.to_string(), "worn");
 /// ```
 #[derive(Clone, Copy, Debug, PartialEq, Eq, Hash)]
+#[non_exhaustive]
 pub enum Refusal {
     /// 1: a key isn't 8, 12 or 16 bytes, or the two lengths differ; blanking:
     /// the key words aren't 4, 6 or 8.

@@ -2,8 +2,8 @@
 //! in which a term sheet is unfit, and the order of the tests.
 
 use captions::{
-    blank, date_of_day, dated_read, day_of_date, read, sheet_len, terms_len, write, Change, Date,
-    Fault, Refusal, FIELD, LAST_DAY,
+    blank, date_of_day, dated_read, day_of_date, read, sheet_len, terms_blank, terms_len,
+    terms_on_show, terms_set, write, Change, Date, Fault, Refusal, FIELD, LAST_DAY,
 };
 
 // ---- Dates ----
@@ -314,4 +314,114 @@ fn a_refused_dated_read_zeroes_its_window() {
             assert!(call.run().is_err());
         }
     }
+}
+
+// ---- Term sheets made and asked by the crate, beside the library's judgement ----
+
+/// What the library says of a slot by a dated read, on a sheet of that many slots
+/// that are all written.
+fn judged(sheet: &[u8], terms: &[u8], slot: usize, day: usize) -> Result<bool, Refusal> {
+    match dated_read(&[1; 8], &[2; 8], sheet, terms, slot, day, &mut [0; FIELD]) {
+        Ok(_) => Ok(true),
+        Err(Refusal::NotOnShow) => Ok(false),
+        Err(refusal) => Err(refusal),
+    }
+}
+
+fn written_sheet(slots: usize) -> Vec<u8> {
+    let mut sheet = vec![0; sheet_len(slots)];
+    blank(&mut sheet, slots, 4, 1, &[1; 8], &[2; 8]).unwrap();
+    for slot in 0..slots {
+        write(&[1; 8], &[2; 8], &mut sheet, slot, b"Clock").unwrap();
+    }
+    sheet
+}
+
+#[test]
+fn a_slot_is_on_show_to_the_crate_as_to_the_library() {
+    let mut random = 20260501_u64;
+    let mut next = move |bound: u64| {
+        random = random.wrapping_mul(6364136223846793005).wrapping_add(1);
+        (random >> 33) % bound
+    };
+    let (mut asked, mut shown, mut refused) = (0, 0, 0);
+    for slots in [1, 2, 3, 17, 255, 256] {
+        let sheet = written_sheet(slots);
+        for round in 0..60 {
+            // Days about a few edges, now and then one that there isn't.
+            let day = |next: &mut dyn FnMut(u64) -> u64| match next(40) {
+                0 if round % 3 == 0 => LAST_DAY + 1 + next(1000) as u16,
+                1 => LAST_DAY,
+                2 => 0,
+                _ => 9600 + next(20) as u16,
+            };
+            let terms: Vec<_> = (0..slots)
+                .map(|_| (day(&mut next), day(&mut next)))
+                .collect();
+            let mut terms = terms_of(&terms);
+            match next(12) {
+                0 => terms.truncate(next(terms.len() as u64) as usize),
+                1 => terms.push(0),
+                2 => terms[1] = terms[1].wrapping_add(1),
+                _ => {}
+            }
+            for _ in 0..40 {
+                let slot = next(slots as u64 + 2) as usize;
+                let day = match next(20) {
+                    0 => usize::from(LAST_DAY) + 1,
+                    1 => usize::MAX,
+                    _ => 9598 + next(24) as usize,
+                };
+                let answer = terms_on_show(&terms, slot, day);
+                assert_eq!(
+                    answer,
+                    judged(&sheet, &terms, slot, day),
+                    "{slots} {slot} {day}"
+                );
+                asked += 1;
+                shown += usize::from(answer == Ok(true));
+                refused += usize::from(answer.is_err());
+            }
+        }
+    }
+    println!("{asked} slots asked of crate and library: {shown} on show, {refused} refused");
+    assert!(shown > 1000 && refused > 1000 && asked - shown - refused > 1000);
+}
+
+#[test]
+fn a_term_sheet_is_made_and_set() {
+    for slots in [1, 3, 256] {
+        let sheet = written_sheet(slots);
+        let mut terms = vec![7; terms_len(slots)];
+        assert_eq!(terms_blank(&mut terms, slots), Ok(()));
+        assert_eq!(terms, terms_of(&vec![(LAST_DAY, 0); slots]));
+        for day in [0, 9617, LAST_DAY] {
+            assert_eq!(judged(&sheet, &terms, slots - 1, day.into()), Ok(false));
+        }
+        assert_eq!(terms_set(&mut terms, slots - 1, 9617, 9800), Ok(()));
+        let mut expected = vec![(LAST_DAY, 0); slots];
+        expected[slots - 1] = (9617, 9800);
+        assert_eq!(terms, terms_of(&expected));
+        for (day, on_show) in [(9616, false), (9617, true), (9800, true), (9801, false)] {
+            assert_eq!(judged(&sheet, &terms, slots - 1, day), Ok(on_show));
+        }
+        // What is refused changes nothing, in the order of the tests.
+        let late = usize::from(LAST_DAY) + 1;
+        assert_eq!(terms_set(&mut terms, slots, 0, 0), Err(Refusal::NoSuchSlot));
+        assert_eq!(terms_set(&mut terms, 0, late, 0), Err(Refusal::NoSuchDate));
+        assert_eq!(
+            terms_set(&mut terms, slots, 0, 65536),
+            Err(Refusal::NoSuchDate)
+        );
+        assert_eq!(terms, terms_of(&expected));
+        let unfit = Err(Refusal::UnfitSheet(Fault::Terms));
+        assert_eq!(terms_set(&mut terms[1..], slots, late, 0), unfit);
+        assert_eq!(terms, terms_of(&expected));
+    }
+    let mut terms = vec![7; terms_len(257)];
+    for slots in [0, 1, 256, 257, usize::MAX] {
+        assert_eq!(terms_blank(&mut terms, slots), Err(Refusal::WrongSpan));
+    }
+    assert_eq!(terms_blank(&mut [], 0), Err(Refusal::WrongSpan));
+    assert!(terms.iter().all(|byte| *byte == 7));
 }

@@ -979,6 +979,101 @@ static void pointing(const struct edition *edition)
     CHECK(points(read_of(sheet, size), CAPTIONS_RULE_CHECK, 1, 0));
 }
 
+/* What captions_dated_read says of a slot, on a sheet whose slots are all
+ * written, beside what the header's own code says. */
+static void judged(const uint8_t *sheet, const uint8_t *terms,
+                   size_t terms_len)
+{
+    static const size_t days[] = {0,           OPENING - 1,
+                                  OPENING,     OPENING + 1,
+                                  CLOSING - 1, CLOSING,
+                                  CLOSING + 1, CAPTIONS_LAST_DAY,
+                                  CAPTIONS_LAST_DAY + 1, SIZE_MAX};
+    uint8_t window[CAPTIONS_FIELD];
+    captions_answer dated;
+    size_t slot, i;
+
+    for (slot = 0; slot <= SLOTS; slot++)
+        for (i = 0; i < sizeof days / sizeof days[0]; i++) {
+            dated = plain(captions_dated_read(
+                sealing, 8, checking, 8, sheet, SHEET, terms, terms_len, slot,
+                days[i], window, sizeof window));
+            dated.length = 0;
+            CHECK(is(captions_terms_on_show(terms, terms_len, slot, days[i]),
+                     dated.number, 0));
+        }
+}
+
+/* Term sheets by the header's code: made, set, asked, and each refusal. */
+static void term_sheets(void)
+{
+    static const unsigned edges[] = {0, OPENING, CLOSING, CAPTIONS_LAST_DAY,
+                                     CAPTIONS_LAST_DAY + 1};
+    uint8_t sheet[SHEET], terms[TERMS + 1], before[TERMS + 1];
+    size_t slot, i, k, place;
+
+    CHECK(accepted(blank_as(sheet, SHEET, SLOTS, 4, 8)));
+    for (slot = 0; slot < SLOTS; slot++)
+        CHECK(accepted(write_as(sheet, 8, slot, "Clock", 5)));
+    memset(terms, UNTOUCHED, sizeof terms);
+    CHECK(accepted(captions_terms_blank(terms, TERMS, SLOTS)));
+    CHECK(terms[TERMS] == UNTOUCHED);
+    judged(sheet, terms, TERMS);
+    for (i = 0; i < 4; i++)
+        for (k = 0; k < 4; k++) {
+            CHECK(accepted(
+                captions_terms_set(terms, TERMS, 1, edges[i], edges[k])));
+            judged(sheet, terms, TERMS);
+        }
+    /* As bytes put by hand. */
+    CHECK(accepted(captions_terms_set(terms, TERMS, 0, 0, CAPTIONS_LAST_DAY)));
+    CHECK(accepted(captions_terms_set(terms, TERMS, 1, OPENING, CLOSING)));
+    CHECK(accepted(captions_terms_set(terms, TERMS, 2, CAPTIONS_LAST_DAY, 0)));
+    make_terms(before);
+    CHECK(same(terms, before, TERMS));
+    /* Refusals change nothing. */
+    CHECK(refused(captions_terms_set(terms, TERMS, SLOTS, 0, 0),
+                  CAPTIONS_NO_SUCH_SLOT));
+    CHECK(refused(captions_terms_set(terms, TERMS, SLOTS,
+                                     CAPTIONS_LAST_DAY + 1, 0),
+                  CAPTIONS_NO_SUCH_DATE));
+    CHECK(refused(captions_terms_set(terms, TERMS, 0, 0, SIZE_MAX),
+                  CAPTIONS_NO_SUCH_DATE));
+    CHECK(refused(captions_terms_set(terms, TERMS - 1, SLOTS, SIZE_MAX, 0),
+                  CAPTIONS_UNFIT_SHEET));
+    CHECK(refused(captions_terms_blank(terms, TERMS, SLOTS + 1),
+                  CAPTIONS_WRONG_SPAN));
+    CHECK(refused(captions_terms_blank(terms, 2, 0), CAPTIONS_WRONG_SPAN));
+    CHECK(refused(captions_terms_blank(terms, TERMS, SIZE_MAX),
+                  CAPTIONS_WRONG_SPAN));
+    CHECK(same(terms, before, TERMS) && terms[TERMS] == UNTOUCHED);
+    /* Every length, another count, and a day past the last in every place. */
+    for (i = 0; i <= TERMS + 1; i++)
+        judged(sheet, terms, i);
+    for (place = 0; place <= 2 * SLOTS; place++)
+        for (i = 0; i < sizeof edges / sizeof edges[0]; i++) {
+            memcpy(before, terms, sizeof before);
+            put_number(before, place, edges[i]);
+            judged(sheet, before, TERMS);
+        }
+}
+
+/* Each rule has words of its own. */
+static void rule_words(void)
+{
+    static const char *const rule[] = CAPTIONS_RULE_WORDS;
+    size_t i, k;
+
+    CHECK(sizeof rule / sizeof rule[0] == CAPTIONS_RULE_TERMS + 1);
+    for (i = 0; i <= CAPTIONS_RULE_TERMS; i++)
+        for (k = 0; k < i; k++)
+            CHECK(rule[i][0] != 0 && strcmp(rule[i], rule[k]) != 0);
+    CHECK(strcmp(rule[CAPTIONS_RULE_CHECK], "the check differs") == 0);
+    CHECK(strcmp(rule[CAPTIONS_RULE_TERMS], "the term sheet does not fit") ==
+          0);
+    CHECK(strcmp(captions_version(), CAPTIONS_VERSION) == 0);
+}
+
 static void words(void)
 {
     static const char *const word[] = CAPTIONS_WORDS;
@@ -1037,6 +1132,8 @@ int main(void)
     for (i = 0; i < EDITIONS; i++)
         sheets_of(&editions[i]);
     listing();
+    term_sheets();
+    rule_words();
     words();
     if (failures != 0) {
         printf("%lu of %lu checks don't hold\n", failures, checks);

@@ -46,8 +46,8 @@ fn help_as_people_ask_for_it() {
     run(&["help", "open"]).failed(64, "no command open");
     run(&["help", "list", "read"]).failed(64, "help takes one command");
     run(&["list", "--", "--help"]).failed(66, "--help: No such file");
-    assert_eq!(printed(&["--version"]), "captions 0.5.0\n");
-    assert_eq!(printed(&["-V"]), "captions 0.5.0\n");
+    assert_eq!(printed(&["--version"]), "captions 0.6.0\n");
+    assert_eq!(printed(&["-V"]), "captions 0.6.0\n");
 }
 
 /// A section's items: terms, and texts with their lines joined.
