@@ -9,14 +9,15 @@ use crate::hex;
 use crate::input;
 use crate::keys::{key_of_file, Keys};
 use crate::kind::Kind;
-use crate::listing::{self, Verified};
+use crate::listing::{self, Listing, Verified};
+use crate::map;
 use crate::reasons::Given;
 use crate::sheet_file;
 use crate::shown::shown;
-use crate::terminal::{hint, print, warn};
+use crate::terminal::{hint, print, print_caption, warn};
 use crate::terms::{self, Term};
 use crate::words::{self, wrong_for, Request, Words};
-use captions::{Change, Refusal, BLOCK, FIELD};
+use captions::{Change, Fault, Refusal, BLOCK, FIELD};
 use std::ffi::{OsStr, OsString};
 use std::os::unix::ffi::OsStrExt;
 use std::path::Path;
@@ -57,6 +58,7 @@ fn run_command(name: &str, words: &Words) -> Result<(), Failure> {
         "read" => read(file, second, Path::new(third), words),
         "clear" => clear(file, second, words),
         "list" => list(file, words),
+        "map" => map(file, words),
         "verify" => verify(file, Path::new(second), words),
         "export" => export(file, Path::new(second)),
         "import" => import(file, Path::new(second), words),
@@ -162,7 +164,7 @@ fn read(file: &Path, slot: &OsStr, keys: &Path, words: &Words) -> Result<(), Fai
         ..Given::default()
     };
     let length = read.map_err(|refusal| given.refused(refusal))?;
-    print(window.get(..length).unwrap_or(&window))
+    print_caption(window.get(..length).unwrap_or(&window))
 }
 
 fn clear(file: &Path, slot: &OsStr, words: &Words) -> Result<(), Failure> {
@@ -180,16 +182,52 @@ fn clear(file: &Path, slot: &OsStr, words: &Words) -> Result<(), Failure> {
 }
 
 fn list(file: &Path, words: &Words) -> Result<(), Failure> {
-    let sheet = sheet_file::read(file)?;
-    let reason = listing::unfit(&sheet);
-    match words.has("--json") {
-        true => print(listing::json(&sheet, reason.as_deref()).as_bytes())?,
-        false => print(&captions::list(&sheet))?,
+    print_list(&sheet_file::read(file)?, words.has("--json"))
+}
+
+/// Prints a listing, and on standard error why a sheet is unfit.
+fn print_list(sheet: &[u8], json: bool) -> Result<(), Failure> {
+    let reason = listing::unfit(sheet);
+    match json {
+        true => print(listing::json(sheet, reason.as_deref()).as_bytes())?,
+        false => print(&captions::list(sheet))?,
     }
     if let Some(reason) = reason {
         warn(&format!("unfit sheet: {reason}"));
     }
     Ok(())
+}
+
+fn map(file: &Path, words: &Words) -> Result<(), Failure> {
+    let dated = dated(words)?;
+    let terms = dated.map(|(terms, _)| terms);
+    let read = [Some(file), terms];
+    one_from_standard_input(&read.map(|path| path.is_some_and(input::is_standard)))?;
+    if words.has("--json") {
+        return list(file, words);
+    }
+    let sheet = sheet_file::read(file)?;
+    let terms = terms.map(sheet_file::read).transpose()?;
+    let Some(listing) = Listing::of_sheet(&sheet) else {
+        return print_list(&sheet, false);
+    };
+    let given = Given {
+        sheet: Some(&sheet),
+        terms: terms.as_deref(),
+        ..Given::default()
+    };
+    let day = match dated {
+        Some((_, date)) => date::day_of(date).map_or(usize::MAX, usize::from),
+        None => 0,
+    };
+    if terms
+        .as_deref()
+        .is_some_and(|terms| terms::slots_in(terms) != Some(listing.slots))
+    {
+        return Err(given.refused(Refusal::UnfitSheet(Fault::Terms)));
+    }
+    let map = map::map(&listing, terms.as_deref().map(|terms| (terms, day)));
+    print(map.map_err(|refusal| given.refused(refusal))?.as_bytes())
 }
 
 fn verify(file: &Path, keys: &Path, words: &Words) -> Result<(), Failure> {

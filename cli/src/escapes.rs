@@ -54,18 +54,23 @@ fn is_no_character(character: char) -> bool {
     character == '\u{feff}' || number & 0xfffe == 0xfffe || (0xfdd0..=0xfdef).contains(&number)
 }
 
+/// What a formula, a quotation or an error begins with, in wide characters too,
+/// and blanks, which some programs take away.
+fn steers_a_spreadsheet(first: char) -> bool {
+    first.is_whitespace() || "=+-@'\"#＝＋－＠".contains(first)
+}
+
 /// Whether a spreadsheet could take a text for a number, a date, a formula, a
-/// quotation, a truth value or an empty cell. With an escape in it, a text that
-/// begins with a letter is none of them.
+/// quotation, a truth value or an empty cell. With an escape in it, it is no
+/// number.
 fn is_taken_for_something(text: &str) -> bool {
-    let begins_plainly = text.starts_with(|first: char| first.is_alphabetic() || first == '\\');
     let is_number = !text.contains('\\')
         && text.contains(char::is_numeric)
         && words_in(text) <= MOST_WORDS_OF_A_DATE;
     let is_truth = ["true", "false"]
         .iter()
         .any(|word| text.eq_ignore_ascii_case(word));
-    !begins_plainly || is_number || is_truth
+    text.is_empty() || text.starts_with(steers_a_spreadsheet) || is_number || is_truth
 }
 
 fn words_in(text: &str) -> usize {

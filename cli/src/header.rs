@@ -1,5 +1,5 @@
-//! What the first bytes of a sheet say that its listing doesn't: the edition and
-//! the serial.
+//! What the first bytes of a sheet say that its listing doesn't: the edition, the
+//! serial and the key mark.
 
 /// The edition of a sheet.
 pub fn edition(sheet: &[u8]) -> u8 {
@@ -12,6 +12,14 @@ pub fn serial(sheet: &[u8]) -> Option<u16> {
     match sheet {
         [_, _, _, 1, ..] => None,
         [_, _, _, _, _, _, _, _, high, low, ..] => Some(u16::from_be_bytes([*high, *low])),
+        _ => None,
+    }
+}
+
+/// The key mark of a sheet; none where its edition has none.
+pub fn key_mark(sheet: &[u8]) -> Option<&[u8]> {
+    match edition(sheet) {
+        3 => sheet.get(10..16),
         _ => None,
     }
 }

@@ -32,7 +32,7 @@ const WAIT: (&str, &str) = (
     "wait so long for the folder's lock; 30 if not given",
 );
 
-pub const PAGES: [Page; 14] = [
+pub const PAGES: [Page; 15] = [
     Page {
         name: "blank",
         operands: &["FILE", "SLOTS", "BITS", "SERIAL", "KEYS"],
@@ -116,7 +116,8 @@ no mark of its keys, takes any keys of the right length.
         summary: "print a caption",
         about: "\
 Prints the caption of a slot: its bytes as they were written, with no line feed
-added. A refusal prints nothing on standard output.
+added, unless standard output is a terminal. A refusal prints nothing on
+standard output.
 
 One pair of keys serves a sheet: with other keys than those that it was blanked
 with nothing is opened (exit status 14). A sheet of edition 1 or 2 has no mark
@@ -157,12 +158,41 @@ listed as \"unfit\", which is an answer: the exit status is 0. Why it is unfit i
 said on standard error.
 
 With --json it prints an object with the members fit (true or false), slots,
-key, last, edition, serial, cipher, reason and list; reason is why a sheet is
-unfit. list has an object for each slot, with the members slot, state (\"blank\"
-or \"written\"), write and length. What a blank slot, an unfit sheet or a sheet of
-edition 1, which has no serial, doesn't have is null.
+key, last, edition, serial, key_mark, cipher, reason and list; reason is why a
+sheet is unfit. list has an object for each slot, with the members slot, state
+(\"blank\" or \"written\"), write and length. What a blank slot, an unfit sheet or a
+sheet of an older edition doesn't have is null: edition 1 has no serial, and
+neither 1 nor 2 a key mark.
 ",
         statuses: &[66],
+    },
+    Page {
+        name: "map",
+        operands: &["FILE"],
+        options: &[
+            ("--terms TERMS", "the term sheet to heed, with --on"),
+            ("--on DATE", "the day to look at, with --terms"),
+            ("--json", "print what captions list --json prints"),
+        ],
+        instead: None,
+        usage: "FILE [--terms TERMS --on DATE] [--json]",
+        summary: "print a sign for each slot",
+        about: "\
+Prints the sheet at a glance: a line for every 16 slots, with the number of the
+first and a sign for each, then what the signs mean and how many there are:
+
+    .  blank
+    o  written
+
+It needs no keys. With --terms and --on, which go together, a written slot is
+shown by whether it is on show on DATE, by the term sheet TERMS:
+
+    +  written, on show
+    -  written, not on show
+
+A file that isn't a sheet is printed as \"unfit\", as by captions list.
+",
+        statuses: &[4, 11, 66],
     },
     Page {
         name: "verify",
@@ -186,12 +216,13 @@ was put back in the place of a newer one verifies as sound: compare the last
 write number with one that you noted elsewhere.
 
 With --json it prints an object with the members fit, slots, key, last, edition,
-serial and cipher, as captions list has them, and sound, blank, altered,
-refusal, word, reason and list. Where the keys or the sheet are refused, it has
-the refusal's number, its word and the reason, and an empty list; else those are
-null. list has an object for each slot, with the members slot, state (\"sound\",
-\"blank\" or \"altered\"), write, length and reason. Write number and length of a
-slot that isn't sound are null; reason is what differs in an altered slot.
+serial, key_mark and cipher, as captions list has them, and sound, blank,
+altered, refusal, word, reason and list. Where the keys or the sheet are
+refused, it has the refusal's number, its word and the reason, and an empty
+list; else those are null. list has an object for each slot, with the members
+slot, state (\"sound\", \"blank\" or \"altered\"), write, length and reason. Write
+number and length of a slot that isn't sound are null; reason is what differs in
+an altered slot.
 ",
         statuses: &[1, 2, 4, 5, 10, 14, 65, 66],
     },
@@ -443,6 +474,13 @@ const INTRODUCTION: &str = "\
 usage: captions COMMAND ...
 
 Caption sheets: up to 256 sealed captions of up to 192 bytes in one file.
+
+Description:
+For installers of touchscreens, for curators who write captions, and for the
+engineer of the kiosk that shows them. A sheet has slots, numbered from 0; each
+is blank or holds a caption, sealed under one key and checked under another.
+What is accepted and what is refused is decided by a proved library; a refusal
+changes nothing.
 ";
 
 const OPTIONS: [(&str, &str); 3] = [
@@ -531,6 +569,24 @@ in a file's name are shown as escapes. A reader that closes the pipe early, as
 head does, is no error.
 ";
 
+const EXAMPLES: &str = "
+Examples:
+A pair of keys, a sheet of six slots for it, a caption, and all captions as a
+table that a spreadsheet can change:
+
+    captions keys hall.keys 128
+    captions blank hall.sheet 6 128 1 hall.keys
+    captions write hall.sheet 1 hall.keys --text 'Vase with cranes.'
+    captions read hall.sheet 1 hall.keys
+    captions export hall.sheet hall.keys >hall.tsv
+    captions import hall.sheet hall.keys --file hall.tsv
+
+See also:
+The tour, examples/README.md, and the bytes of a sheet, docs/FORMAT.md, are in
+the repository. C programs link the library that pkg-config(1) knows as
+captions.
+";
+
 /// What `captions help` prints.
 pub fn overview() -> String {
     let commands = PAGES.map(|page| (synopsis(&page), page.summary));
@@ -544,6 +600,14 @@ pub fn overview() -> String {
     section(&mut text, "Operands", OPERANDS);
     text += NOTES;
     status_section(&mut text, |_| true);
+    text + EXAMPLES
+}
+
+/// The commands and what each does, for whoever gave none.
+pub fn commands() -> String {
+    let mut text = "usage: captions COMMAND ...\n".to_string();
+    let items = PAGES.map(|page| (page.name, page.summary));
+    section(&mut text, "Commands", items);
     text
 }
 

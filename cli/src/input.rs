@@ -4,7 +4,7 @@ use crate::failure::Failure;
 use crate::shown::shown;
 use crate::terminal;
 use std::fs::File;
-use std::io::Read;
+use std::io::{self, ErrorKind, Read};
 use std::os::unix::fs::MetadataExt;
 use std::path::Path;
 
@@ -29,11 +29,21 @@ pub fn identity(path: &Path) -> Option<(u64, u64)> {
     Some((metadata.dev(), metadata.ino()))
 }
 
+/// Why there is no such file, where a symbolic link leads nowhere in its own words.
+pub fn missing(path: &Path, error: io::Error) -> String {
+    let is_link = std::fs::symlink_metadata(path).is_ok();
+    match error.kind() {
+        ErrorKind::NotFound if is_link => "a symbolic link to nothing".to_string(),
+        _ => error.to_string(),
+    }
+}
+
 pub fn of_file(path: &Path) -> Result<Input, Failure> {
     if is_standard(path) {
         return of_standard_input();
     }
-    let file = File::open(path).map_err(|error| Failure::no_input(path, error))?;
+    let opened = File::open(path);
+    let file = opened.map_err(|error| Failure::no_input(path, missing(path, error)))?;
     let name = shown(path).to_string();
     Ok(Input { file, name })
 }

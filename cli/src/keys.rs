@@ -121,6 +121,13 @@ fn keys_of_text<const LINES: usize>(
     }
     match lines.next() {
         None => Ok(keys),
+        // An empty line before the keys makes the last of them one too many.
+        Some(_) if keys.iter().any(Vec::is_empty) => {
+            let number = keys.iter().position(Vec::is_empty).unwrap_or(0) + 1;
+            Err(format!(
+                "line {number}: an empty line; only the keys can stand there"
+            ))
+        }
         Some(([], number)) => Err(format!(
             "line {number}: an empty line after the {}",
             form.counted

@@ -2,6 +2,7 @@
 //! listing says.
 
 use crate::header;
+use crate::hex;
 use crate::keys::Keys;
 use crate::reasons::Given;
 use captions::{Change, Fault, Refusal, FIELD};
@@ -85,13 +86,16 @@ fn members(sheet: &[u8], listing: Option<&Listing>) -> String {
         slots, key, last, ..
     }) = listing
     else {
-        return r#""fit":false,"slots":null,"key":null,"last":null,"edition":null,"serial":null,"cipher":null"#
+        return r#""fit":false,"slots":null,"key":null,"last":null,"edition":null,"serial":null,"key_mark":null,"cipher":null"#
             .to_string();
     };
     let edition = header::edition(sheet);
     let serial = header::serial(sheet).map_or("null".to_string(), |serial| serial.to_string());
+    let mark = header::key_mark(sheet).map(hex::digits_of);
+    let mark = in_json(mark.as_deref());
     let start = format!(r#""fit":true,"slots":{slots},"key":{key},"last":{last}"#);
-    format!(r#"{start},"edition":{edition},"serial":{serial},"cipher":"mCrypton""#)
+    let rest = format!(r#""edition":{edition},"serial":{serial},"key_mark":{mark}"#);
+    format!(r#"{start},{rest},"cipher":"mCrypton""#)
 }
 
 /// Words as JSON. None of the command's has a character that JSON would escape.

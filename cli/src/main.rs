@@ -21,6 +21,7 @@ mod keys;
 mod kind;
 mod listing;
 mod lock;
+mod map;
 mod place;
 mod reasons;
 mod sheet_file;

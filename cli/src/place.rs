@@ -3,6 +3,7 @@
 
 use crate::attributes;
 use crate::failure::Failure;
+use crate::input::missing;
 use crate::lock::lock;
 use crate::shown::shown;
 use crate::temporary::{self, Temporary};
@@ -181,12 +182,12 @@ fn has_no_links(error: &io::Error) -> bool {
 
 /// Where a file that is there is.
 pub fn of_existing(path: &Path) -> Result<PathBuf, Failure> {
-    fs::canonicalize(path).map_err(|error| Failure::no_input(path, error))
+    fs::canonicalize(path).map_err(|error| Failure::no_input(path, missing(path, error)))
 }
 
 /// Where a file is or would be.
 pub fn of_new(path: &Path) -> Result<PathBuf, Failure> {
-    new_path(path).map_err(|error| Failure::no_output(path, error))
+    new_path(path).map_err(|error| Failure::no_output(path, missing(path, error)))
 }
 
 /// A link to nothing is an error: it may not be the place that its maker meant.

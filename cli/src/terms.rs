@@ -95,6 +95,11 @@ pub fn json(sheet: &[u8], reason: Option<&str>) -> String {
     with_list(&header, slots.collect())
 }
 
+/// The slot count of a term sheet; none where it is unfit.
+pub fn slots_in(sheet: &[u8]) -> Option<usize> {
+    slots_with(sheet, 0).ok()
+}
+
 /// The terms of a term sheet; none where it is unfit.
 fn terms_in(sheet: &[u8]) -> Option<Vec<Term>> {
     let slots = slots_with(sheet, 0).ok()?;

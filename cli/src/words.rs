@@ -41,7 +41,10 @@ impl<'a> Words<'a> {
 /// Reads the words after the program's name.
 pub fn request(words: &[OsString]) -> Result<Request<'_>, Failure> {
     let Some((first, rest)) = words.split_first() else {
-        return Err(wrong("no command"));
+        return Err(Failure::Usage(format!(
+            "no command\n{}(captions --help says more)",
+            help::commands()
+        )));
     };
     match first.to_str() {
         Some("--help" | "-h") => Ok(Request::Print(help::overview())),
@@ -61,8 +64,12 @@ fn page_named(name: &OsStr) -> Result<&'static Page, Failure> {
 }
 
 fn help_on(words: &[OsString]) -> Result<String, Failure> {
+    let asks = |word: &OsString| word == "--help" || word == "-h";
     match words {
         [] => Ok(help::overview()),
+        // Of a command, its page; else how to ask.
+        [word] if asks(word) => page_named(OsStr::new("help")).map(help::page),
+        [name, word] if asks(word) => page_named(name).map(help::page),
         [name] => page_named(name).map(help::page),
         _ => Err(wrong("help takes one command")),
     }

@@ -355,7 +355,7 @@ fn a_symbolic_link_to_nothing_is_left_alone() {
     let scratch = Scratch::new();
     let (link, keys) = (scratch.join("link"), scratch.keys(8));
     symlink("nowhere", &link).unwrap();
-    let missing = "No such file or directory";
+    let missing = "link: a symbolic link to nothing";
     all_fail(&link, &keys, missing, missing);
     run(&words!["blank", link, "1", "64", "1", keys]).failed(73, missing);
     run(&words![

@@ -4,12 +4,13 @@
 use crate::support::*;
 use crate::words;
 
-const COMMANDS: [&str; 14] = [
+const COMMANDS: [&str; 15] = [
     "blank",
     "write",
     "read",
     "clear",
     "list",
+    "map",
     "verify",
     "export",
     "import",
@@ -37,9 +38,10 @@ fn help_as_people_ask_for_it() {
     for name in COMMANDS {
         let help = printed(&["help", name]);
         assert!(help.starts_with(&format!("usage: captions {name} ")));
+        assert_eq!(printed(&[name, "--help"]), help);
+        assert_eq!(printed(&[name, "-h"]), help);
+        assert_eq!(printed(&["help", name, "--help"]), help);
         if name != "help" {
-            assert_eq!(printed(&[name, "--help"]), help);
-            assert_eq!(printed(&[name, "-h"]), help);
             assert_eq!(printed(&[name, "nowhere", "--help"]), help);
         }
     }
@@ -94,6 +96,24 @@ fn help_has_one_form() {
         assert!(help.lines().chain(all.lines()).all(|line| line.len() <= 80));
         assert!(help.ends_with('\n') && !help.ends_with("\n\n") && !help.contains("\n\n\n"));
     }
+}
+
+/// Nothing to do is a wrong command line, and the commands are what is wanted then.
+#[test]
+fn without_a_word_the_commands_are_named() {
+    let run = run::<&str>(&[]);
+    assert_eq!((run.status, run.stdout.as_slice()), (64, &b""[..]));
+    let listed = items(
+        &run.stderr.replace("\n(captions", "\n\n(captions"),
+        "Commands",
+    );
+    let all = items(&printed(&["help"]), "Commands");
+    let names: Vec<&str> = listed.iter().map(|(name, _)| name.as_str()).collect();
+    assert_eq!(names, COMMANDS);
+    let texts = |items: &[(String, String)]| -> Vec<String> {
+        items.iter().map(|(_, text)| text.clone()).collect()
+    };
+    assert_eq!(texts(&listed), texts(&all));
 }
 
 #[test]

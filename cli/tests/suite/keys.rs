@@ -84,7 +84,7 @@ fn keys_are_never_overwritten() {
     run(&words!["keys", scratch.path(), "64"]).failed(73, exists);
     let nowhere = scratch.join("nowhere");
     symlink("none", &nowhere).unwrap();
-    run(&words!["keys", nowhere, "64"]).failed(73, "No such file");
+    run(&words!["keys", nowhere, "64"]).failed(73, "a symbolic link to nothing");
     assert!(!scratch.join("none").exists());
 }
 
@@ -237,7 +237,7 @@ fn what_is_wrong_with_keys_is_said() {
     let comment = "a comment; only the keys can stand there";
     let digits = "0x before the digits; only the digits can stand there";
     let mark = "a byte order mark; save the file without one";
-    let cases: [(String, String); 22] = [
+    let cases: [(String, String); 24] = [
         (String::new(), "it is empty".into()),
         ("\n".into(), "no line for the checking key".into()),
         (format!("{s}\n"), "no line for the checking key".into()),
@@ -293,6 +293,14 @@ fn what_is_wrong_with_keys_is_said() {
         (
             format!("{s}\n{c}\n\n"),
             "line 3: an empty line after the two keys".into(),
+        ),
+        (
+            format!("\n{s}\n{c}\n"),
+            "line 1: an empty line; only the keys can stand there".into(),
+        ),
+        (
+            format!("{s}\n\n{c}\n"),
+            "line 2: an empty line; only the keys can stand there".into(),
         ),
         (
             format!("{s}\n{c}\n{c}\n"),

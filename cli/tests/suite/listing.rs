@@ -5,24 +5,32 @@ use crate::support::*;
 use crate::words;
 use std::fs;
 
+/// Done, with this on standard output, the key mark being the sheet's.
+#[track_caller]
+fn printed_with_mark(run: Run, sheet: &[u8], json: &str) {
+    run.printed(json.replace("MARK", &hex(&sheet[10..16])).as_bytes());
+}
+
 #[test]
 fn a_listing_as_json() {
     let scratch = Scratch::new();
     let file = scratch.join("sheet");
     let sheet = written(&blank_sheet(3, 8), 16, 1, b"Clock");
     fs::write(&file, written(&sheet, 16, 2, b"")).unwrap();
-    run(&words!["list", file, "--json"]).printed(
-        br#"{"fit":true,"slots":3,"key":128,"last":2,"edition":3,"serial":1,"cipher":"mCrypton","reason":null,"list":[
+    printed_with_mark(
+        run(&words!["list", file, "--json"]),
+        &sheet,
+        r#"{"fit":true,"slots":3,"key":128,"last":2,"edition":3,"serial":1,"key_mark":"MARK","cipher":"mCrypton","reason":null,"list":[
 {"slot":0,"state":"blank","write":null,"length":null},
 {"slot":1,"state":"written","write":1,"length":5},
 {"slot":2,"state":"written","write":2,"length":0}
 ]}
 "#,
     );
-    // A sheet of edition 1 has no serial.
+    // A sheet of edition 1 has no serial and no key mark.
     fs::write(&file, Edition::One.blank_sheet(1, 4)).unwrap();
     run(&words!["list", file, "--json"]).printed(
-        br#"{"fit":true,"slots":1,"key":64,"last":0,"edition":1,"serial":null,"cipher":"mCrypton","reason":null,"list":[
+        br#"{"fit":true,"slots":1,"key":64,"last":0,"edition":1,"serial":null,"key_mark":null,"cipher":"mCrypton","reason":null,"list":[
 {"slot":0,"state":"blank","write":null,"length":null}
 ]}
 "#,
@@ -36,8 +44,10 @@ fn a_verification_as_json() {
     let sheet = written(&blank_sheet(3, 4), 8, 1, b"Clock");
     let mut sheet = written(&sheet, 8, 2, b"Vase");
     fs::write(&file, &sheet).unwrap();
-    run(&words!["verify", file, keys, "--json"]).printed(
-        br#"{"fit":true,"slots":3,"key":64,"last":2,"edition":3,"serial":1,"cipher":"mCrypton","sound":2,"blank":1,"altered":0,"refusal":null,"word":null,"reason":null,"list":[
+    printed_with_mark(
+        run(&words!["verify", file, keys, "--json"]),
+        &sheet,
+        r#"{"fit":true,"slots":3,"key":64,"last":2,"edition":3,"serial":1,"key_mark":"MARK","cipher":"mCrypton","sound":2,"blank":1,"altered":0,"refusal":null,"word":null,"reason":null,"list":[
 {"slot":0,"state":"blank","write":null,"length":null,"reason":null},
 {"slot":1,"state":"sound","write":1,"length":5,"reason":null},
 {"slot":2,"state":"sound","write":2,"length":4,"reason":null}
@@ -50,12 +60,13 @@ fn a_verification_as_json() {
     assert_eq!((run.status, run.stderr.as_str()), (10, "10 altered\n"));
     assert_eq!(
         String::from_utf8(run.stdout).unwrap(),
-        r#"{"fit":true,"slots":3,"key":64,"last":2,"edition":3,"serial":1,"cipher":"mCrypton","sound":1,"blank":1,"altered":1,"refusal":null,"word":null,"reason":null,"list":[
+        r#"{"fit":true,"slots":3,"key":64,"last":2,"edition":3,"serial":1,"key_mark":"MARK","cipher":"mCrypton","sound":1,"blank":1,"altered":1,"refusal":null,"word":null,"reason":null,"list":[
 {"slot":0,"state":"blank","write":null,"length":null,"reason":null},
 {"slot":1,"state":"altered","write":null,"length":null,"reason":"the check differs"},
 {"slot":2,"state":"sound","write":2,"length":4,"reason":null}
 ]}
 "#
+        .replace("MARK", &hex(&sheet[10..16]))
     );
 }
 

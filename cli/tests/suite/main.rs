@@ -13,6 +13,7 @@ mod keys;
 mod kills;
 mod leftovers;
 mod listing;
+mod map;
 mod no_work_lost;
 mod one_pair;
 mod reasons;

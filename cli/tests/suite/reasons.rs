@@ -210,7 +210,7 @@ fn a_listing_of_an_unfit_sheet_says_why() {
         let line = format!("captions: unfit sheet: {reason}\n");
         assert_eq!(list.stderr, line);
         let none = "\"slots\":null,\"key\":null,\"last\":null,\
-                    \"edition\":null,\"serial\":null,\"cipher\":null";
+                    \"edition\":null,\"serial\":null,\"key_mark\":null,\"cipher\":null";
         let list = run(&words!["list", file, "--json"]);
         assert_eq!((list.status, list.stderr), (0, line.clone()));
         assert_eq!(

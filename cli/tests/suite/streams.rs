@@ -22,6 +22,8 @@ fn every_printing_command(scratch: &Scratch) -> Vec<Vec<std::ffi::OsString>> {
     vec![
         words!["list", file].to_vec(),
         words!["list", file, "--json"].to_vec(),
+        words!["map", file].to_vec(),
+        words!["map", file, "--terms", terms, "--on", "2026-05-01"].to_vec(),
         words!["terms", terms].to_vec(),
         words!["terms", terms, "--json"].to_vec(),
         words!["read", file, "0", keys].to_vec(),

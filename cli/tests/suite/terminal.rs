@@ -163,6 +163,19 @@ fn a_table_typed_at_a_terminal() {
     run(&words!["read", file, "0", keys]).printed(b"Vase");
 }
 
+/// A caption's line ends, so that the next prompt begins one; a pipe gets the bytes.
+#[test]
+fn a_caption_read_at_a_terminal_ends_its_line() {
+    let scratch = Scratch::new();
+    let (file, keys) = (scratch.sheet("sheet", 1, 4), scratch.keys(8));
+    let read = words!["read", file, "0", keys];
+    for (caption, shown) in [("Vase", "Vase\r\n"), ("Vase\n", "Vase\r\n")] {
+        run_with(&words!["write", file, "0", keys], caption.as_bytes()).done();
+        assert_eq!(at_a_terminal(&read, b""), (0, shown.to_string()));
+        run(&read).printed(caption.as_bytes());
+    }
+}
+
 /// Names of files, of commands and of options have their control characters
 /// shown as escapes, wherever they are named.
 #[test]

@@ -5,12 +5,13 @@ use crate::words;
 use std::fs;
 
 /// Each command with the number of its operands.
-const COMMANDS: [(&str, usize); 13] = [
+const COMMANDS: [(&str, usize); 14] = [
     ("blank", 5),
     ("write", 3),
     ("read", 3),
     ("clear", 2),
     ("list", 1),
+    ("map", 1),
     ("verify", 2),
     ("export", 2),
     ("import", 2),
