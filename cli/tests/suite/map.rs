@@ -35,9 +35,9 @@ fn what_is_on_show_on_a_day() {
     );
     let mut sheet = blank_sheet(18, 4);
     let mut all = vec![(36524, 0); 18];
-    for slot in 0..17 {
+    for (slot, term) in all.iter_mut().enumerate().take(17) {
         sheet = written(&sheet, 8, slot, b"Vase");
-        all[slot] = (9610 + slot as u16, 9620 + slot as u16);
+        *term = (9610 + slot as u16, 9620 + slot as u16);
     }
     all[17] = (0, 36524);
     fs::write(&file, &sheet).unwrap();
