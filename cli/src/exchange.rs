@@ -7,9 +7,9 @@ use crate::keys::Keys;
 use crate::listing::Listing;
 use crate::reasons::Given;
 use crate::sheet_file;
-use crate::table::{self, Row, Rows, Taken};
+use crate::table::{self, Row, Rows};
 use crate::terminal::{print, prompt, warn};
-use captions::{Change, Refusal, FIELD};
+use captions::{Refusal, FIELD};
 use std::path::Path;
 use std::time::Duration;
 
@@ -27,8 +27,8 @@ pub fn export(file: &Path, keys: &Path) -> Result<(), Failure> {
     for slot in 0..slots {
         match caption_in(&sheet, &keys, slot) {
             Ok(caption) => {
-                let taken = state_of(slot, &sheet, listing.as_ref());
-                text += &table::line_of(slot, caption.as_deref(), taken);
+                let (write, serial) = state_of(slot, &sheet, listing.as_ref());
+                text += &table::line_of(slot, caption.as_deref(), write, serial);
             }
             Err(Refusal::Altered(change)) => altered.push((slot, change)),
             Err(refusal) => return Err(unusable(&sheet, &keys, refusal)),
@@ -42,16 +42,14 @@ pub fn export(file: &Path, keys: &Path) -> Result<(), Failure> {
     }
     match altered.is_empty() {
         true => Ok(()),
-        false => Err(Refusal::Altered(Change::Unnamed).into()),
+        false => Err(Refusal::Altered(captions::Change::Unnamed).into()),
     }
 }
 
-/// What a slot's line is taken from, on a sheet with this listing.
-fn state_of(slot: usize, sheet: &[u8], listing: Option<&Listing>) -> Taken {
-    Taken {
-        write: listing.map_or(0, |listing| listing.write_number(slot)),
-        serial: header::serial(sheet).unwrap_or(0),
-    }
+/// The write number of a slot and the serial, on a sheet with this listing.
+fn state_of(slot: usize, sheet: &[u8], listing: Option<&Listing>) -> (u32, u16) {
+    let write = listing.map_or(0, |listing| listing.write_number(slot));
+    (write, header::serial(sheet).unwrap_or(0))
 }
 
 /// A sheet or keys that can't be used at all.
@@ -80,7 +78,8 @@ pub struct Import<'a> {
     pub keys: &'a Path,
     pub table: &'a Path,
     pub may_clear: bool,
-    /// Whether slots that were written since the export are written all the same.
+    /// Whether a slot that the table changes and somebody else too is written all
+    /// the same.
     pub force: bool,
     pub dry_run: bool,
     pub wait: Duration,
@@ -97,17 +96,28 @@ impl Import<'_> {
                 "{name}: no write numbers, so that nothing tells what was written since"
             ));
         }
-        let edit = |sheet: &mut [u8]| self.changed(sheet, &keys, &table);
-        if self.dry_run {
-            let mut sheet = sheet_file::read(self.file)?;
-            return print(edit(&mut sheet)?.as_bytes());
+        let mut done = Done::default();
+        match self.dry_run {
+            true => {
+                let mut sheet = sheet_file::read(self.file)?;
+                done = self.changed(&mut sheet, &keys, &table)?;
+                print(done.report.as_bytes())?;
+            }
+            false => sheet_file::change(self.file, self.wait, |sheet| {
+                done = self.changed(sheet, &keys, &table)?;
+                Ok(())
+            })?,
         }
-        sheet_file::change(self.file, self.wait, |sheet| edit(sheet).map(|_| ()))
+        for line in done.left_alone {
+            let name = &table.name;
+            warn(&format!("{name}: {line}"));
+        }
+        Ok(())
     }
 
-    /// Changes a sheet to have the captions of the rows, and reports each change.
-    /// Where a line is wrong, it says so of every such line.
-    fn changed(&self, sheet: &mut [u8], keys: &Keys, table: &Table) -> Result<String, Failure> {
+    /// Changes a sheet to have the captions of the rows. Where a line is wrong, it
+    /// says so of every such line.
+    fn changed(&self, sheet: &mut [u8], keys: &Keys, table: &Table) -> Result<Done, Failure> {
         // Keys or a sheet that can't be used at all are no line's fault.
         match caption_in(sheet, keys, 0) {
             Ok(_) | Err(Refusal::Altered(_)) => {}
@@ -118,83 +128,124 @@ impl Import<'_> {
         // A sheet that was never written has nothing to lose.
         let is_new = listing.as_ref().is_some_and(|listing| listing.last == 0);
         let mut faults = Faults::new(table);
-        let (mut report, mut writes, mut clears) = (String::new(), 0, 0);
+        let (mut done, mut writes, mut clears) = (Done::default(), 0, 0);
         for row in &table.rows {
             let now = state_of(row.slot, &before, listing.as_ref());
-            let stale = match self.force || is_new || !table.is_exported {
+            let stale = match is_new || !table.is_exported {
                 true => None,
                 false => stale(row, now),
             };
             match self.change(row, stale, sheet, keys) {
-                Ok(None) => continue,
-                Ok(Some(change)) if row.caption.is_some() => {
+                Ok(Change::None) => {}
+                Ok(Change::Write(line)) => {
                     writes += 1;
-                    report += &change;
+                    done.report += &line;
                 }
-                Ok(Some(change)) => {
+                Ok(Change::Clear(line)) => {
                     clears += 1;
-                    report += &change;
+                    done.report += &line;
+                }
+                Ok(Change::LeftAlone(why)) => {
+                    let (line, slot) = (row.line, row.slot);
+                    let words = "the table doesn't change it, so it stays";
+                    done.left_alone
+                        .push(format!("line {line}: slot {slot}: {why}; {words}"));
                 }
                 Err(fault) => faults.push(row, fault, &before),
             }
         }
         faults.into_failure()?;
         let unchanged = table.rows.len() - writes - clears;
-        Ok(report + &format!("writes {writes} clears {clears} unchanged {unchanged}\n"))
+        done.report += &format!("writes {writes} clears {clears} unchanged {unchanged}\n");
+        Ok(done)
     }
 
-    /// Does what a row asks for; gives the change as a line of the report, or
-    /// none where the slot has that caption already.
+    /// Does what a row asks for, if the slot isn't as it asks already.
     fn change(
         &self,
         row: &Row,
-        stale: Option<String>,
+        stale: Option<Stale>,
         sheet: &mut [u8],
         keys: &Keys,
-    ) -> Result<Option<String>, LineFault> {
+    ) -> Result<Change, LineFault> {
         let slot = row.slot;
         let old = caption_in(sheet, keys, slot)?;
         if row.caption == old {
-            return Ok(None);
+            return Ok(Change::None);
         }
-        if let Some(stale) = stale {
-            return Err(LineFault::Stale(stale));
+        match stale {
+            Some(Stale::Elsewhere(why)) if row.is_untouched() => {
+                return Ok(Change::LeftAlone(why));
+            }
+            Some(Stale::Elsewhere(why) | Stale::Unknown(why)) if !self.force => {
+                return Err(LineFault::Stale(why));
+            }
+            _ => {}
         }
-        let change = match &row.caption {
+        let text = table::text_of(old.as_deref());
+        match &row.caption {
             Some(new) => {
                 captions::write(&keys.sealing, &keys.checking, sheet, slot, new)?;
-                format!("write\t{} of {FIELD}", new.len())
+                let (bytes, new) = (new.len(), table::text_of(Some(new)));
+                let line = format!("{slot}\twrite\t{bytes} of {FIELD}\t{text}\t{new}\n");
+                Ok(Change::Write(line))
             }
-            None if !self.may_clear => return Err(LineFault::WouldClear),
+            None if !self.may_clear => Err(LineFault::WouldClear),
             None => {
                 captions::clear(sheet, slot)?;
-                "clear\t".to_string()
+                Ok(Change::Clear(format!("{slot}\tclear\t\t{text}\t\n")))
             }
-        };
-        let old = table::text_of(old.as_deref());
-        let new = table::text_of(row.caption.as_deref());
-        Ok(Some(format!("{slot}\t{change}\t{old}\t{new}\n")))
+        }
     }
 }
 
-/// Why what a slot is now isn't what a line was taken from; none where it is. A
-/// line without numbers may still be written to a blank slot.
-fn stale(row: &Row, now: Taken) -> Option<String> {
-    let number = now.write;
-    match row.taken {
-        Some(taken) if taken == now => None,
-        Some(Taken { serial, .. }) if serial != now.serial => Some(format!(
-            "of another sheet, with serial {serial}; this one has {}",
-            now.serial
-        )),
-        Some(Taken { write, .. }) if number == 0 => {
-            Some(format!("cleared since; the table has write number {write}"))
-        }
-        Some(Taken { write, .. }) => Some(format!(
-            "written since: write number {number}, where the table has {write}"
-        )),
+/// What an import has done.
+#[derive(Default)]
+struct Done {
+    /// A line for each change, and their counts.
+    report: String,
+    /// The lines whose slots somebody else changed since, and which don't.
+    left_alone: Vec<String>,
+}
+
+/// What comes of a row, as a line of the report.
+enum Change {
+    None,
+    Write(String),
+    Clear(String),
+    /// Why the slot isn't as the line was taken from it.
+    LeftAlone(String),
+}
+
+/// Why what a slot is now isn't what a line was taken from.
+enum Stale {
+    /// Somebody wrote or cleared it on this sheet.
+    Elsewhere(String),
+    /// The line is of another sheet, or nothing says of which.
+    Unknown(String),
+}
+
+/// None where the slot is as the line was taken from it. A line without numbers
+/// may still be written to a blank slot.
+fn stale(row: &Row, (number, serial): (u32, u16)) -> Option<Stale> {
+    match &row.taken {
+        Some(taken) if taken.serial != serial => Some(Stale::Unknown(format!(
+            "of another sheet, with serial {}; this one has {serial}",
+            taken.serial
+        ))),
+        Some(taken) if taken.write == number => None,
+        Some(taken) if number == 0 => Some(Stale::Elsewhere(format!(
+            "cleared since: the table has write number {}",
+            taken.write
+        ))),
+        Some(taken) => Some(Stale::Elsewhere(format!(
+            "written since: write number {number}, where the table has {}",
+            taken.write
+        ))),
         None if number == 0 => None,
-        None => Some("no write number, and the slot is written".to_string()),
+        None => Some(Stale::Unknown(
+            "no write number, and the slot is written".to_string(),
+        )),
     }
 }
 

@@ -235,12 +235,13 @@ an altered slot.
         summary: "print all captions as a table",
         about: "\
 Prints the sheet as a table for a spreadsheet: lines of UTF-8 with a tab between
-the columns slot, text, write and serial. The first line names them. Each slot
-has a line; a blank slot's text is empty.
+the columns slot, text, write, serial and digest. The first line names them.
+Each slot has a line; a blank slot's text is empty.
 
-Change the texts alone. The last two columns say what a line was taken from: the
-slot's write number, 0 for a blank slot, and the sheet's serial. By them an
-import finds what somebody else has written since.
+Change the texts alone. The last three columns say what a line was taken from:
+the slot's write number, 0 for a blank slot, the sheet's serial, and letters by
+which the text is known again. By them an import finds what somebody else has
+written since, and which texts you changed.
 
 An altered slot has no line, so that an import of the table leaves it alone. It
 is named on standard error, and the exit status is then 10.
@@ -258,7 +259,10 @@ number, a date, a formula or a quotation, and alone for a caption of no bytes.
         options: &[
             ("--dry-run", "print what would change, and change nothing"),
             ("--clear", "make a slot blank where its text is empty"),
-            ("--force", "write slots that were written since the export"),
+            (
+                "--force",
+                "write what the table changes, whoever wrote there since",
+            ),
             ("--file NAME", "the table is in the file NAME"),
             WAIT,
         ],
@@ -276,13 +280,14 @@ slot; where the slot is written, the table is refused (exit status 65) unless
 --clear is given. A caption of no bytes is the text \\&. A slot that is altered
 isn't overwritten (exit status 10): clear it first.
 
-A slot that the table would change must be as it was when the table was
-exported. Where it was written or cleared since, or the line is of a sheet with
-another serial, nothing is imported (exit status 65): somebody's work would be
-lost. Export again and bring your changes over, or take those lines out. --force
-imports them all the same. A sheet that never was written has nothing to lose
-and takes any table. So does every sheet a table of slot and text alone, as it
-is typed by hand; a line on standard error says that nothing can be told then.
+A slot that was written or cleared since the table was exported stays as it is
+if its text in the table is still the exported one; a line on standard error
+says so. Where the text was changed too, or the line is of a sheet with another
+serial, nothing is imported (exit status 65): somebody's work would be lost.
+Export again and bring your changes over, or take those lines out; --force
+writes them all the same. A sheet that never was written has nothing to lose and
+takes any table. So does every sheet a table of slot and text alone, as it is
+typed by hand; a line on standard error says that nothing can be told then.
 
 The table may be as spreadsheets save it: UTF-8, or UTF-16 with a byte order
 mark; lines that end with a carriage return; texts in quotation marks, with the

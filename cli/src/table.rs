@@ -5,7 +5,7 @@
 use crate::escapes;
 
 /// The names of the columns.
-const COLUMNS: [&str; 4] = ["slot", "text", "write", "serial"];
+const COLUMNS: [&str; 5] = ["slot", "text", "write", "serial", "digest"];
 /// As many of them has a table that was typed.
 const TYPED: usize = 2;
 
@@ -18,14 +18,39 @@ pub struct Row {
     pub taken: Option<Taken>,
 }
 
-/// What a line was taken from. Columns of plain numbers are what every
+impl Row {
+    /// Whether the text is still the one that was exported.
+    pub fn is_untouched(&self) -> bool {
+        match (&self.caption, &self.taken) {
+            (None, Some(taken)) => taken.write == 0,
+            (Some(caption), Some(taken)) => taken.digest == digest(caption),
+            (_, None) => false,
+        }
+    }
+}
+
+/// What a line was taken from. Columns of plain numbers and letters are what every
 /// spreadsheet keeps, whatever else it does: a line sorted or copied has its own.
-#[derive(Clone, Copy, PartialEq, Eq)]
 pub struct Taken {
     /// The slot's write number; 0 where it was blank.
     pub write: u32,
     /// The sheet's serial; 0 where it has none.
     pub serial: u16,
+    /// The digest of the text; empty where the slot was blank, or nobody kept it.
+    pub digest: String,
+}
+
+/// Sixteen letters by which a text is known again: FNV-1a of its bytes, 64 bits.
+/// It guards against no ill will. Letters from a to p make no number, date or
+/// truth value.
+fn digest(caption: &[u8]) -> String {
+    let hash = caption
+        .iter()
+        .fold(0xcbf2_9ce4_8422_2325_u64, |hash, byte| {
+            (hash ^ u64::from(*byte)).wrapping_mul(0x0100_0000_01b3)
+        });
+    let nibbles = (0..16).rev().map(|place| (hash >> (4 * place)) as u8 & 15);
+    nibbles.map(|nibble| char::from(b'a' + nibble)).collect()
 }
 
 /// The rows of a table in the order of their slots, and what is wrong with its
@@ -42,10 +67,11 @@ pub fn header() -> String {
     COLUMNS.join("\t") + "\n"
 }
 
-/// The line of a slot.
-pub fn line_of(slot: usize, caption: Option<&[u8]>, taken: Taken) -> String {
-    let (text, Taken { write, serial }) = (text_of(caption), taken);
-    format!("{slot}\t{text}\t{write}\t{serial}\n")
+/// The line of a slot with this write number, on a sheet with this serial.
+pub fn line_of(slot: usize, caption: Option<&[u8]>, write: u32, serial: u16) -> String {
+    let text = text_of(caption);
+    let digest = caption.map(digest).unwrap_or_default();
+    format!("{slot}\t{text}\t{write}\t{serial}\t{digest}\n")
 }
 
 /// The text of a slot; a blank one's is empty.
@@ -117,7 +143,7 @@ fn other_separator(text: &str) -> Option<&'static str> {
 
 fn row(line: usize, fields: &[String], columns: usize) -> Result<Row, String> {
     if fields.len() > columns {
-        let more = if columns == TYPED { "third" } else { "fifth" };
+        let more = if columns == TYPED { "third" } else { "sixth" };
         return Err(format!("a {more} column; a tab in a text is written \\t"));
     }
     let field = |place: usize| fields.get(place).map_or("", String::as_str);
@@ -139,13 +165,13 @@ fn row(line: usize, fields: &[String], columns: usize) -> Result<Row, String> {
         // One that is too large for the machine is too large for the library.
         slot: digits.parse().unwrap_or(usize::MAX),
         caption,
-        taken: taken_from(field(2), field(3))?,
+        taken: taken_from(field(2), field(3), field(4))?,
     })
 }
 
-/// What a line was taken from, by its last two cells. Both are left empty where
+/// What a line was taken from, by its last cells. They are left empty where
 /// somebody typed the line.
-fn taken_from(write: &str, serial: &str) -> Result<Option<Taken>, String> {
+fn taken_from(write: &str, serial: &str, digest: &str) -> Result<Option<Taken>, String> {
     let (write, serial) = (write.trim_matches(' '), serial.trim_matches(' '));
     if write.is_empty() && serial.is_empty() {
         return Ok(None);
@@ -154,6 +180,7 @@ fn taken_from(write: &str, serial: &str) -> Result<Option<Taken>, String> {
     Ok(Some(Taken {
         write: number(write).ok_or_else(|| of("write number"))?,
         serial: number(serial).ok_or_else(|| of("serial"))?,
+        digest: digest.trim_matches(' ').to_string(),
     }))
 }
 

@@ -81,7 +81,11 @@ fn access_list(owner: u16, user: u16, group: u16, mask: u16, others: u16) -> Vec
 fn sheet_and_changes(scratch: &Scratch) -> (std::path::PathBuf, Vec<Vec<OsString>>) {
     let (file, keys) = (scratch.join("sheet"), scratch.keys(8));
     let table = scratch.join("table");
-    fs::write(&table, "slot\ttext\twrite\tserial\n0\tClock\t0\t1\n").unwrap();
+    fs::write(
+        &table,
+        "slot\ttext\twrite\tserial\tdigest\n0\tClock\t0\t1\n",
+    )
+    .unwrap();
     fs::write(&file, written(&blank_sheet(1, 4), 8, 0, b"Vase")).unwrap();
     let changes = vec![
         words!["write", file, "0", keys, "--text", "Table"].to_vec(),

@@ -93,7 +93,7 @@ fn read_written_cleared_and_listed(edition: Edition) {
         Edition::One => 0,
         Edition::Two(serial) | Edition::Three(serial) => serial,
     };
-    let table = format!("slot\ttext\twrite\tserial\n2\tTable\t0\t{serial}\n");
+    let table = format!("slot\ttext\twrite\tserial\tdigest\n2\tTable\t0\t{serial}\n");
     run_with(&words!["import", file, keys], table.as_bytes()).done();
     let sheet = written(&sheet, 8, 2, b"Table");
     assert_eq!(fs::read(&file).unwrap(), sheet);
@@ -104,7 +104,9 @@ fn read_written_cleared_and_listed(edition: Edition) {
     run(&words!["verify", file, keys])
         .printed(b"0 sound 10\n1 blank\n2 sound 5\nslots 3 sound 2 blank 1 altered 0\n");
     let table = format!(
-        "slot\ttext\twrite\tserial\n0\t\\&Vase, 1751\t2\t{serial}\n1\t\t0\t{serial}\n2\tTable\t3\t{serial}\n"
+        "slot\ttext\twrite\tserial\tdigest\n0\t\\&Vase, 1751\t2\t{serial}\t{}\n1\t\t0\t{serial}\t\n2\tTable\t3\t{serial}\t{}\n",
+        digest(b"Vase, 1751"),
+        digest(b"Table")
     );
     run(&words!["export", file, keys]).printed(table.as_bytes());
 }

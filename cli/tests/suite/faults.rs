@@ -56,7 +56,7 @@ impl Place {
         let table = self.scratch.join("table");
         fs::write(
             &table,
-            "slot\ttext\twrite\tserial\n7\t\t1\t1\n0\tVase, 1751\t0\t1\n",
+            "slot\ttext\twrite\tserial\tdigest\n7\t\t1\t1\n0\tVase, 1751\t0\t1\n",
         )
         .unwrap();
         let never = [(36524, 0); 256];

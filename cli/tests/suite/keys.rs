@@ -108,7 +108,7 @@ fn keys_that_everybody_can_read_are_warned_of() {
     let (file, keys) = (scratch.join("sheet"), scratch.keys(8));
     fs::write(&file, written(&blank_sheet(1, 4), 8, 0, b"Vase")).unwrap();
     let table = scratch.join("table");
-    fs::write(&table, "slot\ttext\twrite\tserial\n0\tVase\t1\t1\n").unwrap();
+    fs::write(&table, "slot\ttext\twrite\tserial\tdigest\n0\tVase\t1\t1\n").unwrap();
     for (bits, words) in [
         (0o600, None),
         (0o640, None),

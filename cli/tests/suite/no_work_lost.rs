@@ -73,7 +73,8 @@ fn state(file: &Path) -> (Vec<u8>, u64) {
 
 // ---- Imports of stale tables ----
 
-/// Two curators export, each corrects another slot, each imports.
+/// Two curators export, each corrects another slot, each imports: both corrections
+/// stand, and the second curator hears of the first one's.
 #[test]
 fn a_stale_import_reverts_nobodys_correction() {
     let place = Place::new();
@@ -81,6 +82,43 @@ fn a_stale_import_reverts_nobodys_correction() {
     let first = table.replace("1960", "1690");
     let second = table.replace("1688", "1788");
     place.import(&[], &first).done();
+    let name = place.scratch.join("table.tsv");
+    let note = format!(
+        "captions: {}: line 2: slot 0: written since: write number 3, where the table has 1; \
+         the table doesn't change it, so it stays\n",
+        name.display()
+    );
+    let run = place.import(&["--dry-run"], &second);
+    assert_eq!((run.status, &run.stderr), (0, &note));
+    let report =
+        "1\twrite\t11 of 192\t\\&Clock, 1688\t\\&Clock, 1788\nwrites 1 clears 0 unchanged 2\n";
+    assert_eq!(String::from_utf8(run.stdout).unwrap(), report);
+    let run = place.import(&[], &second);
+    assert_eq!((run.status, run.stdout.as_slice()), (0, &b""[..]));
+    assert_eq!(run.stderr, note);
+    place.reads("0", "Vase, 1690");
+    place.reads("1", "Clock, 1788");
+    // Not even --force takes a text for a change that was only left as it was. A
+    // table without what it was taken from is a typed one: all of it is meant.
+    let forced = place.import(&["--force"], &table);
+    assert_eq!((forced.status, forced.stderr.lines().count()), (0, 2));
+    place.reads("0", "Vase, 1690");
+    place.reads("1", "Clock, 1788");
+    let cut = |line: &str| line.splitn(3, '\t').take(2).collect::<Vec<_>>().join("\t") + "\n";
+    let typed: String = table.lines().map(cut).collect();
+    assert_eq!(place.import(&["--force"], &typed).status, 0);
+    place.reads("0", "Vase, 1960");
+    place.reads("1", "Clock, 1688");
+}
+
+/// Both correct the same slot: the second is refused, with the line, and the first
+/// one's correction stands.
+#[test]
+fn two_corrections_of_one_slot_are_told() {
+    let place = Place::new();
+    let table = place.export();
+    place.import(&[], &table.replace("1960", "1690")).done();
+    let second = table.replace("1960", "1670").replace("1688", "1788");
     let before = state(&place.file);
     for options in [&[][..], &["--dry-run"], &["--clear"]] {
         let run = place.import(options, &second);
@@ -98,16 +136,54 @@ fn a_stale_import_reverts_nobodys_correction() {
         );
         assert_eq!(state(&place.file), before);
     }
-    // Without the line that the second curator didn't mean, both corrections stand.
+    // Whoever means it says so.
+    let sheet = fs::read(&place.file).unwrap();
+    place.import(&["--force"], &second).done();
+    place.reads("0", "Vase, 1670");
+    fs::write(&place.file, sheet).unwrap();
+    // Without that line the other correction is imported.
     let lines = second.lines().filter(|line| !line.starts_with("0\t"));
     let kept: String = lines.map(|line| format!("{line}\n")).collect();
     place.import(&[], &kept).done();
     place.reads("0", "Vase, 1690");
     place.reads("1", "Clock, 1788");
-    // Whoever means it says so.
-    place.import(&["--force"], &table).done();
-    place.reads("0", "Vase, 1960");
-    place.reads("1", "Clock, 1688");
+}
+
+/// A blank slot that somebody filled, and a caption that somebody withdrew, stay
+/// so; a table whose digests were lost can't tell, and is refused.
+#[test]
+fn what_the_table_does_not_change_stays() {
+    let place = Place::new();
+    let table = place.export();
+    place.clears("0");
+    place.writes("2", "Fan, 1768");
+    for options in [&[][..], &["--clear"]] {
+        let run = place.import(options, &table);
+        assert_eq!(run.status, 0, "{}", run.stderr);
+        for line in [
+            "line 2: slot 0: cleared since: the table has write number 1; the table doesn't",
+            "line 4: slot 2: written since: write number 3, where the table has 0; the table",
+        ] {
+            assert!(run.stderr.contains(line), "{}", run.stderr);
+        }
+        assert_eq!(run.stderr.lines().count(), 2);
+        run_blank(&place, "0");
+        place.reads("2", "Fan, 1768");
+    }
+    let lost = table.replace(&digest(b"Vase, 1960"), "");
+    let run = place.import(&[], &lost);
+    assert_eq!(run.status, 65);
+    assert!(
+        run.stderr.contains("line 2: slot 0: cleared since"),
+        "{}",
+        run.stderr
+    );
+    run_blank(&place, "0");
+}
+
+#[track_caller]
+fn run_blank(place: &Place, slot: &str) {
+    run(&words!["read", place.file, slot, place.keys]).refused(9, "blank");
 }
 
 /// Every line is named: written, cleared and blank slots, and a line of another
@@ -119,36 +195,30 @@ fn every_stale_line_is_named() {
     place.writes("0", "Vase, 1690");
     place.clears("1");
     place.writes("2", "Fan, 1768");
-    let other = "slot\ttext\twrite\tserial\n0\tA\t1\t1\n1\tB\t2\t1\n2\tC\t0\t1\n";
-    assert_eq!(
-        table
-            .replace("\\&Vase, 1960", "A")
-            .replace("\\&Clock, 1688", "B")
-            .replace("2\t\t0", "2\tC\t0"),
-        other
-    );
+    let other = "slot\ttext\twrite\tserial\tdigest\n0\tA\t1\t1\n1\tB\t2\t1\n2\tC\t0\t1\n";
+    assert!(table.contains("0\t\\&Vase, 1960\t1\t1\t") && table.contains("2\t\t0\t1\t"));
     let run = place.import(&[], other);
     assert_eq!(run.status, 65);
     for line in [
         "line 2: slot 0: written since: write number 3, where the table has 1\n",
-        "line 3: slot 1: cleared since; the table has write number 2\n",
+        "line 3: slot 1: cleared since: the table has write number 2\n",
         "line 4: slot 2: written since: write number 4, where the table has 0\n",
     ] {
         assert!(run.stderr.contains(line), "{}", run.stderr);
     }
     assert_eq!(run.stderr.lines().count(), 4);
     // The numbers agree by chance, but the sheet is another.
-    let run = place.import(&[], "slot\ttext\twrite\tserial\n0\tA\t3\t7\n");
+    let run = place.import(&[], "slot\ttext\twrite\tserial\tdigest\n0\tA\t3\t7\n");
     let words = "line 2: slot 0: of another sheet, with serial 7; this one has 1\n";
     assert!(run.stderr.contains(words), "{}", run.stderr);
     assert_eq!(run.status, 65);
     // A line that somebody typed into the table.
-    let run = place.import(&[], "slot\ttext\twrite\tserial\n0\tA\n1\tB\n");
+    let run = place.import(&[], "slot\ttext\twrite\tserial\tdigest\n0\tA\n1\tB\n");
     let words = "line 2: slot 0: no write number, and the slot is written\n";
     assert!(run.stderr.contains(words), "{}", run.stderr);
     assert_eq!((run.status, run.stderr.lines().count()), (65, 2));
     place
-        .import(&[], "slot\ttext\twrite\tserial\n1\tB\n")
+        .import(&[], "slot\ttext\twrite\tserial\tdigest\n1\tB\n")
         .done();
     place.reads("1", "B");
 }
@@ -174,7 +244,7 @@ fn a_slot_with_the_tables_text_is_left_alone() {
 #[test]
 fn a_spreadsheet_keeps_what_a_line_was_taken_from() {
     let place = Place::new();
-    let table = "\"slot\"\t\"text\"\t\"write\"\t\"serial\"\t\r\n\
+    let table = "\"slot\"\t\"text\"\t\"write\"\t\"serial\"\t\"digest\"\t\r\n\
                  2\t\"\"\t 0\t1\t\r\n\
                  \"1\"\tB\t\"2\"\t\"1\"\r\n\
                  0\tA\t01\t1\t\t\r\n";
@@ -198,11 +268,11 @@ fn a_spreadsheet_keeps_what_a_line_was_taken_from() {
         ("1", "line 2: the serial isn't a number"),
         ("\t1", "line 2: the write number isn't a number"),
         (
-            "1\t1\tx",
-            "line 2: a fifth column; a tab in a text is written",
+            "1\t1\tx\ty",
+            "line 2: a sixth column; a tab in a text is written",
         ),
     ] {
-        let table = format!("slot\ttext\twrite\tserial\n0\tC\t{cells}\n");
+        let table = format!("slot\ttext\twrite\tserial\tdigest\n0\tC\t{cells}\n");
         place.import(&[], &table).failed(65, words);
         place.import(&["--force"], &table).failed(65, words);
     }

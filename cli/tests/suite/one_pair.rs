@@ -32,7 +32,7 @@ impl Place {
         fs::write(&place.terms, term_sheet(&[(0, 36524), (0, 36524)])).unwrap();
         fs::write(
             &place.table,
-            "slot\ttext\twrite\tserial\n0\tVase\t0\t1\n1\tClock\t1\t1\n",
+            "slot\ttext\twrite\tserial\tdigest\n0\tVase\t0\t1\n1\tClock\t1\t1\n",
         )
         .unwrap();
         place

@@ -17,7 +17,11 @@ fn sheet(scratch: &Scratch) -> (std::path::PathBuf, std::path::PathBuf) {
 fn every_printing_command(scratch: &Scratch) -> Vec<Vec<std::ffi::OsString>> {
     let (file, keys) = sheet(scratch);
     let (table, terms) = (scratch.join("table"), scratch.join("terms"));
-    fs::write(&table, "slot\ttext\twrite\tserial\n0\tClock\t1\t1\n").unwrap();
+    fs::write(
+        &table,
+        "slot\ttext\twrite\tserial\tdigest\n0\tClock\t1\t1\n",
+    )
+    .unwrap();
     fs::write(&terms, term_sheet(&[(0, 36524), (36524, 0)])).unwrap();
     vec![
         words!["list", file].to_vec(),

@@ -165,6 +165,17 @@ pub fn cleared(sheet: &[u8], slot: usize) -> Vec<u8> {
     sheet
 }
 
+/// The letters by which an exported text is known again (FNV-1a, 64 bits).
+pub fn digest(caption: &[u8]) -> String {
+    let mut hash = 14695981039346656037_u64;
+    for byte in caption {
+        hash = (hash ^ u64::from(*byte)).wrapping_mul(1099511628211);
+    }
+    let digits = format!("{hash:016x}");
+    let letter = |digit: char| char::from(b'a' + digit.to_digit(16).unwrap() as u8);
+    digits.chars().map(letter).collect()
+}
+
 /// A term sheet by the opening and closing days of its slots.
 pub fn term_sheet(terms: &[(u16, u16)]) -> Vec<u8> {
     let openings = terms.iter().map(|term| term.0);

@@ -85,13 +85,19 @@ fn three_slots() -> Vec<u8> {
 #[test]
 fn a_sheet_as_a_table() {
     let place = Place::new(&three_slots());
+    let (vase, empty) = (digest(b"Vase with cranes"), digest(b""));
+    let lines = format!("0\tVase with cranes\t1\t1\t{vase}\n1\t\t0\t1\t\n2\t\\&\t2\t1\t{empty}\n");
     assert_eq!(
         place.export(),
-        "slot\ttext\twrite\tserial\n0\tVase with cranes\t1\t1\n1\t\t0\t1\n2\t\\&\t2\t1\n"
+        format!("slot\ttext\twrite\tserial\tdigest\n{lines}")
     );
+    assert_eq!(empty, "mlpcjmoeiecccdcf");
     // A sheet of edition 1 has no serial.
     let place = Place::new(&Edition::One.blank_sheet(1, 4));
-    assert_eq!(place.export(), "slot\ttext\twrite\tserial\n0\t\t0\t0\n");
+    assert_eq!(
+        place.export(),
+        "slot\ttext\twrite\tserial\tdigest\n0\t\t0\t0\t\n"
+    );
 }
 
 #[test]
@@ -147,8 +153,11 @@ fn texts_of_captions() {
     ];
     for (caption, text) in cases {
         let place = Place::new(&written(&blank_sheet(1, 4), 8, 0, caption));
-        let line = format!("0\t{text}\t1\t1\n");
-        assert_eq!(place.export(), format!("slot\ttext\twrite\tserial\n{line}"));
+        let line = format!("0\t{text}\t1\t1\t{}\n", digest(caption));
+        assert_eq!(
+            place.export(),
+            format!("slot\ttext\twrite\tserial\tdigest\n{line}")
+        );
         let place = Place::new(&blank_sheet(1, 4));
         place.import(format!("slot\ttext\n0\t{text}\n")).done();
         run(&words!["read", place.file, "0", place.keys]).printed(caption);
@@ -245,7 +254,7 @@ fn any_bytes_survive_the_round_trip() {
             let texts = |table: &str| {
                 let lines = table
                     .lines()
-                    .map(|line| line.rsplitn(3, '\t').nth(2).unwrap().to_string());
+                    .map(|line| line.rsplitn(4, '\t').nth(3).unwrap().to_string());
                 lines.collect::<Vec<_>>()
             };
             assert_eq!(texts(&copy.export()), texts(&table));
@@ -436,9 +445,11 @@ fn altered_slots() {
         run.stderr,
         "captions: slot 1 is altered and not in the table: the check differs\n10 altered\n"
     );
-    let table = "slot\ttext\twrite\tserial\n0\tVase with cranes\t1\t1\n2\t\\&\t2\t1\n";
+    let (vase, empty) = (digest(b"Vase with cranes"), digest(b""));
+    let lines = format!("0\tVase with cranes\t1\t1\t{vase}\n2\t\\&\t2\t1\t{empty}\n");
+    let table = format!("slot\ttext\twrite\tserial\tdigest\n{lines}");
     assert_eq!(String::from_utf8(run.stdout).unwrap(), table);
-    place.import(table).done();
+    place.import(&table).done();
     assert_eq!(place.sheet(), sheet);
     place.refuses(
         "slot\ttext\n0\tA\n1\tB\n",

@@ -47,7 +47,11 @@ fn finished(child: Child) -> Run {
 fn changes(scratch: &Scratch) -> Vec<Vec<OsString>> {
     let (file, keys) = (scratch.join("sheet"), scratch.keys(8));
     let (table, terms) = (scratch.join("table"), scratch.join("terms"));
-    fs::write(&table, "slot\ttext\twrite\tserial\n0\tClock\t1\t1\n").unwrap();
+    fs::write(
+        &table,
+        "slot\ttext\twrite\tserial\tdigest\n0\tClock\t1\t1\n",
+    )
+    .unwrap();
     fs::write(&terms, term_sheet(&[(36524, 0); 2])).unwrap();
     fs::write(&file, written(&blank_sheet(1, 4), 8, 0, b"Vase")).unwrap();
     vec![
