@@ -550,7 +550,8 @@ Mode, access control list and extended attributes are kept, or the change is
 refused; owner and group are kept as far as you may set them, and another group
 gets no more than all others had. A hard link to the old file stays with the old
 sheet. A symbolic link is followed and stays. Only a regular file that you may
-write is replaced.
+write is replaced, only by a file of its own kind, and never one that the same
+command reads, by whatever name.
 
 The folder is locked meanwhile: two changes at once happen one after the other.
 Where a folder's lock isn't shared between machines, as in some network folders,

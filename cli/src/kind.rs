@@ -38,7 +38,7 @@ impl Kind {
             Kind::Terms => "a term sheet",
             Kind::Keys => "a file of keys",
             Kind::Empty => "an empty file",
-            Kind::Other => "another file",
+            Kind::Other => "a file of another kind",
         }
     }
 }

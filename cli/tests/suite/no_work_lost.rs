@@ -340,10 +340,10 @@ fn force_replaces_its_own_kind_alone() {
     let term_sheets = [&terms[..], &terms[..7], &terms[..3], &alike];
     let others: [(&[u8], &str); 5] = [
         (&key_text, "a file of keys"),
-        (b"a letter, by mistake", "another file"),
-        (b"slot\ttext\n0\tVase\n", "another file"),
-        (b"\0", "another file"),
-        (&[0; 600], "another file"),
+        (b"a letter, by mistake", "a file of another kind"),
+        (b"slot\ttext\n0\tVase\n", "a file of another kind"),
+        (b"\0", "a file of another kind"),
+        (&[0; 600], "a file of another kind"),
     ];
     for content in sheets {
         fs::write(&file, content).unwrap();
