@@ -4,6 +4,7 @@ ghost use mathlib.Core.Path.{_≡_};
 ghost use mathlib.Core.List.{map};
 ghost use Rattle.cipher.specs.Key.{mcryptonClass, classKnown, keyBytes, sheetKeyLength, loaded, keyRegister, encrypted, decrypted};
 ghost use Prim.Native.Nat.{_<_};
+ghost use Rattle.mcrypton.specs.Bytes.{wordsOf, bytesOf};
 
 // A loaded key: its class (the number of its words) and its words.
 pub struct Key {
@@ -85,29 +86,40 @@ pub fn decrypt(k: Key, b: [u8; 8]) -> [u8; 8]
     mcrypton::block_bytes(mcrypton::decrypt_words(register(k).backward_start(), words))
 }
 
-// Four blocks decrypted at a time, each by itself: what they share is the walk of the key's register.
-pub fn decrypt_four(k: Key, b: [[u8; 8]; 4]) -> [[u8; 8]; 4]
+// The words of the 24 blocks of a field, and their bytes.
+fn field_words(b: [[u8; 8]; 24]) -> [[u16; 4]; 24]
+    ensures { λ r. ⌜ r ≡ map wordsOf b ⌝ }
+{
+    let mut a = [[0u16; 4]; 24];
+    let mut i = 0;
+    while i < 24 {
+        let x = b[i];
+        let y = mcrypton::block_words(x);
+        a[i] = y;
+        i += 1;
+    }
+    a
+}
+
+fn field_bytes(a: [[u16; 4]; 24]) -> [[u8; 8]; 24]
+    ensures { λ r. ⌜ r ≡ map bytesOf a ⌝ }
+{
+    let mut b = [[0u8; 8]; 24];
+    let mut i = 0;
+    while i < 24 {
+        let x = a[i];
+        let y = mcrypton::block_bytes(x);
+        b[i] = y;
+        i += 1;
+    }
+    b
+}
+
+// The 24 blocks of a field decrypted, each by itself: what they share is the walk of the key's register.
+pub fn decrypt_blocks(k: Key, b: [[u8; 8]; 24]) -> [[u8; 8]; 24]
     ensures { λ r. ⌜ r ≡ map (decrypted k) b ⌝ }
 {
-    let b0 = b[0];
-    let b1 = b[1];
-    let b2 = b[2];
-    let b3 = b[3];
-    let words = [
-        mcrypton::block_words(b0),
-        mcrypton::block_words(b1),
-        mcrypton::block_words(b2),
-        mcrypton::block_words(b3),
-    ];
-    let a = mcrypton::decrypt_four(register(k).backward_start(), words);
-    let a0 = a[0];
-    let a1 = a[1];
-    let a2 = a[2];
-    let a3 = a[3];
-    [
-        mcrypton::block_bytes(a0),
-        mcrypton::block_bytes(a1),
-        mcrypton::block_bytes(a2),
-        mcrypton::block_bytes(a3),
-    ]
+    let mut a = field_words(b);
+    mcrypton::decrypt_all(register(k).backward_start(), &mut a);
+    field_bytes(a)
 }

@@ -1,7 +1,6 @@
 pub mod Paths
 pub mod Opens
 pub mod Loop
-pub mod Four
 pub mod WordsOf
 pub mod ByteBlocks
 pub mod Calls
@@ -9,3 +8,4 @@ pub mod Table
 pub mod FirstHalf
 pub mod Refusals
 pub mod Vectors
+pub mod Each

@@ -1,23 +1,23 @@
 -- One turn of the loops that encrypt and decrypt, for any step of the register and any key made from it.
 use mathlib.Core.Path.{_≡_, refl, sym, ap, ap₂, _∙_, subst}
 use mathlib.Core.List.{List}
-use Prim.Native.Nat.{ℕ, zero, suc, _+_, _≤_}
+use Prim.Native.Nat.{ℕ, zero, suc, _+_, _-_, _≤_}
 use native.Mathlib.Numerals.{add-one}
 use native.Mathlib.Omega.{arith}
 use Rattle.rounds.specs.Array.{φ, σ, wordRound}
 use Rattle.rounds.specs.declared.Direction.{Direction}
 use Rattle.rounds.proofs.Paths.{same-round}
-use Rattle.schedule.specs.Schedule.{times}
+use Rattle.schedule.specs.Schedule.{forward, backward, times}
 use Rattle.schedule.specs.declared.Register.{Register}
 use Rattle.mcrypton.specs.Cipher.{pathRound, after, steps}
 use Rattle.mcrypton.proofs.Paths.{any-path}
 
 -- r rounds from the array a
-pub onward : Direction → ℕ → (ℕ → List ℕ) → List ℕ → ℕ → List ℕ
+unfoldable pub onward : Direction → ℕ → (ℕ → List ℕ) → List ℕ → ℕ → List ℕ
 onward d p keys a zero = a
 onward d p keys a (suc r) = pathRound d p (suc r) (keys (suc r)) (onward d p keys a r)
 
-onward-after : (d : Direction) (p : ℕ) (keys : ℕ → List ℕ) (b : List ℕ) (r : ℕ) → onward d p keys (σ (keys 0) b) r ≡ after d p keys b r
+pub onward-after : (d : Direction) (p : ℕ) (keys : ℕ → List ℕ) (b : List ℕ) (r : ℕ) → onward d p keys (σ (keys 0) b) r ≡ after d p keys b r
 unfolding onward after
 onward-after d p keys b zero = refl
 onward-after d p keys b (suc r) = ap (pathRound d p (suc r) (keys (suc r))) (onward-after d p keys b r)
@@ -58,7 +58,7 @@ module _ (d : Direction) (p : ℕ) (step : Register → Register) (key : Registe
       twelve = omega arith
 
 -- a round by words is a round by any path
-by-words : (d : Direction) (p r : ℕ) (k a : List ℕ) {a′ : List ℕ} → a′ ≡ wordRound d k a → a′ ≡ pathRound d p r k a
+pub by-words : (d : Direction) (p r : ℕ) (k a : List ℕ) {a′ : List ℕ} → a′ ≡ wordRound d k a → a′ ≡ pathRound d p r k a
 by-words d p r k a e = e ∙ same-round d k a ∙ sym (any-path d p r k a)
 
 module _ {d : Direction} {p : ℕ} {step : Register → Register} {key : Register → List ℕ} {u : Register} {a₀ : List ℕ} where
@@ -66,3 +66,12 @@ module _ {d : Direction} {p : ℕ} {step : Register → Register} {key : Registe
   pub word-more : {v v′ : Register} {k a a′ : List ℕ} (r n : ℕ) → n ≡ r + 1 → At d p step key u a₀ r v a → v′ ≡ step v → k ≡ key v′ → a′ ≡ wordRound d k a
       → At d p step key u a₀ n v′ a′
   word-more {v′} {k} {a} {a′} r n m h e i g = subst (λ (l : ℕ). At d p step key u a₀ l v′ a′) (sym m) (one-more d p step key u a₀ r h e i (by-words d p (r + 1) k a g))
+
+-- the round of the register after a step
+pub forward-round : (v v′ : Register) {n : ℕ} → v′ ≡ forward v → v .round ≡ n → v′ .round ≡ n + 1
+unfolding forward
+forward-round v v′ e i = ap (λ (x : Register). x .round) e ∙ ap (λ (m : ℕ). m + 1) i
+
+pub backward-round : (v v′ : Register) {n : ℕ} → v′ ≡ backward v → v .round ≡ n → v′ .round ≡ n - 1
+unfolding backward
+backward-round v v′ e i = ap (λ (x : Register). x .round) e ∙ ap (λ (m : ℕ). m - 1) i

@@ -5,7 +5,8 @@ ghost use mathlib.Core.Path.{_≡_};
 ghost use Prim.Native.Nat.{_/_, _%_, _<_};
 ghost use lib.ListN.{getD, length};
 ghost use mathlib.Core.List.{map};
-ghost use Rattle.rounds.specs.Array.{tables};
+ghost use Rattle.rounds.specs.Array.{tables, σ, φ, wordRound};
+ghost use Rattle.rounds.specs.declared.Direction.the-variants.{Decrypt};
 ghost use Rattle.schedule.specs.Schedule.{eightWords, start as startOf};
 ghost use Rattle.mcrypton.specs.Cipher.{pathRound};
 ghost use Rattle.mcrypton.specs.Registers.{encryptFrom, decryptFrom};
@@ -86,34 +87,46 @@ fn decrypt_by_path(p: u16, u: Register, b: [u16; 4]) -> [u16; 4]
 }
 
 // A block encrypted by words alone: any path number gives the same, and this spares the choice in each round.
-// Four rounds a turn take a seventh of the instructions off: what is between them need not be laid out for the next turn.
+// The rounds are written out from a register whose round is a literal, so that the compiler knows each constant. The register
+// takes two steps before two rounds, so that its word count is asked for once in two: together an eighth of the instructions.
 pub fn encrypt_words(u: Register, b: [u16; 4]) -> [u16; 4]
     requires { ⌜ u .round ≡ 0 ⌝ }
     ensures { λ z. ⌜ z ≡ encryptFrom 0 u b ⌝ }
 {
     let s = rounds::sbox_tables();
     let t = rounds::word_tables();
-    let mut v = u;
-    let mut a = rounds::sigma(v.round_key(&s), b);
-    let mut r: usize = 0;
-    while r < 12 {
-        let u1 = v.forward();
-        let k1 = u1.round_key(&s);
-        let a1 = rounds::encrypt_round(&t, k1, a);
-        let u2 = u1.forward();
-        let k2 = u2.round_key(&s);
-        let a2 = rounds::encrypt_round(&t, k2, a1);
-        let u3 = u2.forward();
-        let k3 = u3.round_key(&s);
-        let a3 = rounds::encrypt_round(&t, k3, a2);
-        let u4 = u3.forward();
-        let k4 = u4.round_key(&s);
-        let a4 = rounds::encrypt_round(&t, k4, a3);
-        v = u4;
-        a = a4;
-        r += 4;
-    }
-    rounds::phi(a)
+    let words = u.words;
+    let v0 = Register {
+        words,
+        count: u.count,
+        round: 0,
+    };
+    let a0 = rounds::sigma(v0.round_key(&s), b);
+    let v1 = v0.forward();
+    let v2 = v1.forward();
+    let a1 = rounds::encrypt_round(&t, v1.round_key(&s), a0);
+    let a2 = rounds::encrypt_round(&t, v2.round_key(&s), a1);
+    let v3 = v2.forward();
+    let v4 = v3.forward();
+    let a3 = rounds::encrypt_round(&t, v3.round_key(&s), a2);
+    let a4 = rounds::encrypt_round(&t, v4.round_key(&s), a3);
+    let v5 = v4.forward();
+    let v6 = v5.forward();
+    let a5 = rounds::encrypt_round(&t, v5.round_key(&s), a4);
+    let a6 = rounds::encrypt_round(&t, v6.round_key(&s), a5);
+    let v7 = v6.forward();
+    let v8 = v7.forward();
+    let a7 = rounds::encrypt_round(&t, v7.round_key(&s), a6);
+    let a8 = rounds::encrypt_round(&t, v8.round_key(&s), a7);
+    let v9 = v8.forward();
+    let v10 = v9.forward();
+    let a9 = rounds::encrypt_round(&t, v9.round_key(&s), a8);
+    let a10 = rounds::encrypt_round(&t, v10.round_key(&s), a9);
+    let v11 = v10.forward();
+    let v12 = v11.forward();
+    let a11 = rounds::encrypt_round(&t, v11.round_key(&s), a10);
+    let a12 = rounds::encrypt_round(&t, v12.round_key(&s), a11);
+    rounds::phi(a12)
 }
 
 // A block decrypted by words alone.
@@ -123,74 +136,95 @@ pub fn decrypt_words(u: Register, b: [u16; 4]) -> [u16; 4]
 {
     let s = rounds::sbox_tables();
     let t = rounds::word_tables();
-    let mut v = u;
-    let mut a = rounds::sigma(rounds::phi(v.round_key(&s)), b);
-    let mut r: usize = 0;
-    while r < 12 {
-        let u1 = v.backward();
-        let k1 = rounds::phi(u1.round_key(&s));
-        let a1 = rounds::decrypt_round(&t, k1, a);
-        let u2 = u1.backward();
-        let k2 = rounds::phi(u2.round_key(&s));
-        let a2 = rounds::decrypt_round(&t, k2, a1);
-        let u3 = u2.backward();
-        let k3 = rounds::phi(u3.round_key(&s));
-        let a3 = rounds::decrypt_round(&t, k3, a2);
-        let u4 = u3.backward();
-        let k4 = rounds::phi(u4.round_key(&s));
-        let a4 = rounds::decrypt_round(&t, k4, a3);
-        v = u4;
-        a = a4;
-        r += 4;
-    }
-    rounds::phi(a)
+    let words = u.words;
+    let v0 = Register {
+        words,
+        count: u.count,
+        round: 12,
+    };
+    let a0 = rounds::sigma(rounds::phi(v0.round_key(&s)), b);
+    let v1 = v0.backward();
+    let v2 = v1.backward();
+    let a1 = rounds::decrypt_round(&t, rounds::phi(v1.round_key(&s)), a0);
+    let a2 = rounds::decrypt_round(&t, rounds::phi(v2.round_key(&s)), a1);
+    let v3 = v2.backward();
+    let v4 = v3.backward();
+    let a3 = rounds::decrypt_round(&t, rounds::phi(v3.round_key(&s)), a2);
+    let a4 = rounds::decrypt_round(&t, rounds::phi(v4.round_key(&s)), a3);
+    let v5 = v4.backward();
+    let v6 = v5.backward();
+    let a5 = rounds::decrypt_round(&t, rounds::phi(v5.round_key(&s)), a4);
+    let a6 = rounds::decrypt_round(&t, rounds::phi(v6.round_key(&s)), a5);
+    let v7 = v6.backward();
+    let v8 = v7.backward();
+    let a7 = rounds::decrypt_round(&t, rounds::phi(v7.round_key(&s)), a6);
+    let a8 = rounds::decrypt_round(&t, rounds::phi(v8.round_key(&s)), a7);
+    let v9 = v8.backward();
+    let v10 = v9.backward();
+    let a9 = rounds::decrypt_round(&t, rounds::phi(v9.round_key(&s)), a8);
+    let a10 = rounds::decrypt_round(&t, rounds::phi(v10.round_key(&s)), a9);
+    let v11 = v10.backward();
+    let v12 = v11.backward();
+    let a11 = rounds::decrypt_round(&t, rounds::phi(v11.round_key(&s)), a10);
+    let a12 = rounds::decrypt_round(&t, rounds::phi(v12.round_key(&s)), a11);
+    rounds::phi(a12)
 }
 
-// Four blocks decrypted in one walk of the register: a round key is made once for the four. With two rounds a turn the
-// four arrays are laid out for the next turn half as often.
-pub fn decrypt_four(u: Register, b: [[u16; 4]; 4]) -> [[u16; 4]; 4]
+// σ, a round and φ on each array of a list, in its place.
+fn sigma_all(k: [u16; 4], a: &mut [[u16; 4]])
+    ensures { λ _. ⌜ now (a .exit) ≡ map (σ k) (now (a .entry)) ⌝ }
+{
+    let mut i = 0;
+    while i < a.len() {
+        let x = a[i];
+        let y = rounds::sigma(k, x);
+        a[i] = y;
+        i += 1;
+    }
+}
+
+fn round_all(t: &[[u16; 16]; 4], k: [u16; 4], a: &mut [[u16; 4]])
+    requires { ⌜ now t ≡ tables ⌝ }
+    ensures { λ _. ⌜ now (a .exit) ≡ map (wordRound Decrypt k) (now (a .entry)) ⌝ }
+{
+    let mut i = 0;
+    while i < a.len() {
+        let x = a[i];
+        let y = rounds::decrypt_round(t, k, x);
+        a[i] = y;
+        i += 1;
+    }
+}
+
+fn phi_all(a: &mut [[u16; 4]])
+    ensures { λ _. ⌜ now (a .exit) ≡ map φ (now (a .entry)) ⌝ }
+{
+    let mut i = 0;
+    while i < a.len() {
+        let x = a[i];
+        let y = rounds::phi(x);
+        a[i] = y;
+        i += 1;
+    }
+}
+
+// Blocks decrypted in one walk of the register, however many: a round key is made once for all of them.
+pub fn decrypt_all(u: Register, a: &mut [[u16; 4]])
     requires { ⌜ u .round ≡ 12 ⌝ }
-    ensures { λ z. ⌜ z ≡ map (decryptFrom 0 u) b ⌝ }
+    ensures { λ _. ⌜ now (a .exit) ≡ map (decryptFrom 0 u) (now (a .entry)) ⌝ }
 {
     let s = rounds::sbox_tables();
     let t = rounds::word_tables();
-    let b0 = b[0];
-    let b1 = b[1];
-    let b2 = b[2];
-    let b3 = b[3];
     let mut v = u;
-    let k0 = rounds::phi(v.round_key(&s));
-    let mut w = rounds::sigma(k0, b0);
-    let mut x = rounds::sigma(k0, b1);
-    let mut y = rounds::sigma(k0, b2);
-    let mut z = rounds::sigma(k0, b3);
+    sigma_all(rounds::phi(v.round_key(&s)), a);
     let mut r: usize = 0;
     while r < 12 {
-        let u1 = v.backward();
-        let k1 = rounds::phi(u1.round_key(&s));
-        let w1 = rounds::decrypt_round(&t, k1, w);
-        let x1 = rounds::decrypt_round(&t, k1, x);
-        let y1 = rounds::decrypt_round(&t, k1, y);
-        let z1 = rounds::decrypt_round(&t, k1, z);
-        let u2 = u1.backward();
-        let k2 = rounds::phi(u2.round_key(&s));
-        let w2 = rounds::decrypt_round(&t, k2, w1);
-        let x2 = rounds::decrypt_round(&t, k2, x1);
-        let y2 = rounds::decrypt_round(&t, k2, y1);
-        let z2 = rounds::decrypt_round(&t, k2, z1);
-        v = u2;
-        w = w2;
-        x = x2;
-        y = y2;
-        z = z2;
-        r += 2;
+        let next = v.backward();
+        round_all(&t, rounds::phi(next.round_key(&s)), a);
+        v = next;
+        r += 1;
     }
-    [
-        rounds::phi(w),
-        rounds::phi(x),
-        rounds::phi(y),
-        rounds::phi(z),
-    ]
+    phi_all(a);
 }
 
 // The path number decided once: words alone where all twelve bits that count are 1.

@@ -7,3 +7,4 @@ pub mod Laws
 pub mod Refusals
 pub mod Cases
 pub mod Printed
+pub mod Field

@@ -1,10 +1,10 @@
 // CBC of NIST SP 800-38A and CMAC of NIST SP 800-38B over a cipher with a block of 64 bits.
 ghost use mathlib.Core.Path.{_≡_};
-ghost use mathlib.Core.List.{List, _++_};
+ghost use mathlib.Core.List.{List, [], _++_};
 ghost use Prim.Native.Nat.{ℕ, _+_, _-_, _*_, _/_, _%_, _≤_, _<_};
 ghost use lib.Dec.{eqb};
-ghost use lib.ListN.{length};
-ghost use Rattle.octets.specs.Bytes.{put, zeros};
+ghost use lib.ListN.{length, getD};
+ghost use Rattle.octets.specs.Bytes.{part, put, zeros};
 ghost use Rattle.cipher.specs.Key.{encrypted, decrypted};
 ghost use Rattle.modes.specs.Xor.{xorBytes};
 ghost use Rattle.modes.specs.CBC.{cbcEncrypt, cbcDecrypt};
@@ -63,27 +63,40 @@ fn decrypt_one(k: cipher::Key, c: [u8; 8], s: &[u8], out: &mut [u8])
     put_plain(out, 0, d, c);
 }
 
-// The first four blocks of s, of which the first is chained to c.
-fn decrypt_four(k: cipher::Key, c: [u8; 8], s: &[u8], out: &mut [u8])
-    requires { ⌜ (32 ≤ length (now s)) × (length (now out) ≡ 32) ⌝ }
-    ensures { λ _. ⌜ now (out .exit) ≡ cbcDecrypt (decrypted k) 4 c (now (s .entry)) ⌝ }
+// The 24 blocks of a field.
+fn field_blocks(s: &[u8]) -> [[u8; 8]; 24]
+    requires { ⌜ 192 ≤ length (now s) ⌝ }
+    ensures { λ r. ⌜ ((i : ℕ) → i < 24 → getD r i [] ≡ part (now (s .entry)) (8 * i) 8) ⌝ }
 {
-    let c0 = octets::block_at(s, 0);
-    let c1 = octets::block_at(s, 8);
-    let c2 = octets::block_at(s, 16);
-    let c3 = octets::block_at(s, 24);
-    let d = cipher::decrypt_four(k, [c0, c1, c2, c3]);
-    let d0 = d[0];
-    let d1 = d[1];
-    let d2 = d[2];
-    let d3 = d[3];
-    put_plain(out, 0, d0, c);
-    put_plain(out, 8, d1, c0);
-    put_plain(out, 16, d2, c1);
-    put_plain(out, 24, d3, c2);
+    let mut b = [[0u8; 8]; 24];
+    let mut i = 0;
+    while i < 24 {
+        let x = octets::block_at(s, 8 * i);
+        b[i] = x;
+        i += 1;
+    }
+    b
 }
 
-// Four blocks a turn, and the rest one by one.
+// The first 24 blocks of s, a field, of which the first is chained to c.
+fn decrypt_field(k: cipher::Key, c: [u8; 8], s: &[u8], out: &mut [u8])
+    requires { ⌜ (192 ≤ length (now s)) × (length (now out) ≡ 192) ⌝ }
+    ensures { λ _. ⌜ now (out .exit) ≡ cbcDecrypt (decrypted k) 24 c (now (s .entry)) ⌝ }
+{
+    let b = field_blocks(s);
+    let d = cipher::decrypt_blocks(k, b);
+    let mut before = c;
+    let mut i = 0;
+    while i < 24 {
+        let x = d[i];
+        put_plain(out, 8 * i, x, before);
+        let next = b[i];
+        before = next;
+        i += 1;
+    }
+}
+
+// A field a turn, and the rest one by one.
 pub fn cbc_decrypt(k: cipher::Key, start: [u8; 8], s: &[u8], out: &mut [u8])
     requires { ⌜ length (now s) ≡ length (now out) ⌝ }
     requires { ⌜ length (now s) ≡ 8 * (length (now s) / 8) ⌝ }
@@ -94,11 +107,11 @@ pub fn cbc_decrypt(k: cipher::Key, start: [u8; 8], s: &[u8], out: &mut [u8])
     let mut j = 0;
     while j < n {
         let a = 8 * j;
-        if j + 4 <= n {
-            decrypt_four(k, before, &s[a..], &mut out[a..a + 32]);
-            let last = octets::block_at(s, a + 24);
+        if j + 24 <= n {
+            decrypt_field(k, before, &s[a..], &mut out[a..a + 192]);
+            let last = octets::block_at(s, a + 184);
             before = last;
-            j += 4;
+            j += 24;
         } else {
             decrypt_one(k, before, &s[a..], &mut out[a..a + 8]);
             let last = octets::block_at(s, a);

@@ -118,13 +118,16 @@ module _ (k : Keys) (r : Bool) (e : r ≡ wrongKeys k) where
 -- ---- tests 4, 5, 14 and 6, each by itself
 
 module _ (s : List ℕ) (r : Bool) (e : r ≡ fit s) where
-  pub fit-no : r ≡ false → (f : Fault) → f ≡ firstFault s → Refuse (UnfitSheet f) ≡ firstOf (unfitRow (editionOf s) s ∷ [])
+  pub fit-no : r ≡ false → (a : Answer) → a ≡ UnfitSheet (firstFault s) → Refuse a ≡ firstOf (unfitRow (editionOf s) s ∷ [])
   unfolding fit
-  fit-no h f q = rw q (met _ _ _ (rw (← e, h)))
+  fit-no h a q = rw q (met _ _ _ (rw (← e, h)))
 
   pub fit-yes : r ≡ true → Pass ≡ firstOf (unfitRow (editionOf s) s ∷ [])
   unfolding fit
   fit-yes h = unmet _ _ _ _ (rw (← e, h)) none
+
+  pub fit-true : r ≡ true → fit s ≡ true
+  fit-true h = sym e ∙ h
 
 pub fit-passed : (s : List ℕ) (v : Verdict) → v ≡ firstOf (unfitRow (editionOf s) s ∷ []) → v ≡ Pass → fit s ≡ true
 unfolding fit
@@ -352,3 +355,12 @@ module _ (k : Keys) (s : List ℕ) (i n : ℕ) where
 
   pub window-passed : (w : Verdict) → w ≡ firstOf (windowRows k s i n) → w ≡ Pass → FitSlot s i
   window-passed w f h = window-slot (passed _ w f h)
+
+-- ---- 4 and 6 of clear, where r is what was found of the layout
+
+module _ (s : List ℕ) (i : ℕ) (r : Bool) (e : r ≡ fit s) where
+  pub clear-no : r ≡ false → (a : Answer) → a ≡ UnfitSheet (firstFault s) → Refuse a ≡ firstOf (clearRows s i)
+  clear-no h a q = clear-unfit s i (Refuse a) (fit-no s r e h a q) a refl
+
+  pub clear-yes : r ≡ true → (w : Verdict) → w ≡ firstOf (slotRow s i ∷ []) → w ≡ firstOf (clearRows s i)
+  clear-yes h w g = clear-slot s i Pass (fit-yes s r e h) refl w g

@@ -9,6 +9,8 @@ ghost use lib.Dec.{eqb};
 ghost use lib.ListN.{length};
 ghost use Rattle.layout.specs.Layout.{newEdition, editionOf, keyClass, sheetSize, slotCount, fit};
 ghost use Rattle.layout.specs.Shape.{FitSlot};
+ghost use Rattle.faults.specs.Faults.{firstFault};
+ghost use Rattle.captions.specs.declared.Answer.the-variants.{UnfitSheet};
 ghost use Rattle.captions.specs.Answers.{firstOf};
 ghost use Rattle.captions.specs.Captions.{pair, loadedFor};
 ghost use Rattle.captions.specs.Calls.{wrongKeys, keyTests, unfitRow, classRow, markRow, slotRow, captionTests, blankRow, blankTests};
@@ -43,6 +45,14 @@ pub fn keys_verdict(sealing: &[u8], checking: &[u8]) -> Verdict
     Verdict::Pass
 }
 
+// The answer to an unfit sheet, with its fault. Two functions call it: inlined into one, the search would keep that one from being inlined.
+fn unfit(sheet: &[u8]) -> Answer
+    ensures { λ r. ⌜ r ≡ UnfitSheet (firstFault (now (sheet .entry))) ⌝ }
+{
+    let f = faults::first_fault(sheet);
+    Answer::UnfitSheet(f)
+}
+
 // Test 4. The fault is looked for in an unfit sheet alone.
 pub fn fit_verdict(sheet: &[u8]) -> Verdict
     ensures { λ r. ⌜ r ≡ firstOf (unfitRow (editionOf (now (sheet .entry))) (now (sheet .entry)) ∷ []) ⌝ }
@@ -50,8 +60,7 @@ pub fn fit_verdict(sheet: &[u8]) -> Verdict
     if layout::fit_sheet(sheet) {
         return Verdict::Pass;
     }
-    let f = faults::first_fault(sheet);
-    Verdict::Refuse(Answer::UnfitSheet(f))
+    Verdict::Refuse(unfit(sheet))
 }
 
 // Test 5: key bytes are those of class t. Of the keys only the length of the sealing key is looked at.
@@ -191,9 +200,8 @@ pub fn read_verdict(sealing: &[u8], checking: &[u8], sheet: &[u8], slot: usize, 
 pub fn clear_verdict(sheet: &[u8], slot: usize) -> Verdict
     ensures { λ r. ⌜ r ≡ firstOf (clearRows (now (sheet .entry)) slot) ⌝ }
 {
-    let fitting = fit_verdict(sheet);
-    if let Verdict::Refuse(a) = fitting {
-        return Verdict::Refuse(a);
+    if !layout::fit_sheet(sheet) {
+        return Verdict::Refuse(unfit(sheet));
     }
     slot_verdict(sheet, slot)
 }

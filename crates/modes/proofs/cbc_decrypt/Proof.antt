@@ -20,8 +20,8 @@ abbrev μ-loop : tie.MeasureT-loop
 loop-again : tie.Need-loop-again Inv-loop μ-loop
 loop-again c =
     let l = c .before .before .before .before .before .before .before .before .loop in
-    let q = c .before .before .before .decrypt-four in
-    let h = decrypt-blocks _ 4 _ _ _ _ _ _ _ _ (l .j) (8 * l .j + 24) (l .inv .0) (search needs) (search needs) (l .inv .3) (q .ensures) (search needs) (omega arith) (omega arith) (c .block-at .ensures) (put-span (l .out) _ _ (8 * l .j) 32 refl (search needs)) (l .inv .1) in
+    let q = c .before .before .before .decrypt-field in
+    let h = decrypt-blocks _ 24 _ _ _ _ _ _ _ _ (l .j) (8 * l .j + 184) (l .inv .0) (search needs) (search needs) (l .inv .3) (q .ensures) (search needs) (omega arith) (omega arith) (c .block-at .ensures) (put-span (l .out) _ _ (8 * l .j) 192 refl (search needs)) (l .inv .1) in
     (h, search needs, search needs, search needs)
 
 loop-again-2 : tie.Need-loop-again-2 Inv-loop μ-loop

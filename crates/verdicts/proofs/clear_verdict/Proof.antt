@@ -1,5 +1,6 @@
 use borrow.Author.Needs.{needs}
-use Rattle.verdicts.proofs.Verdicts.{fit-passed, clear-unfit, clear-slot}
+use borrow.Author.Tests.{not-true, not-false}
+use Rattle.verdicts.proofs.Verdicts.{fit-true, clear-no, clear-yes}
 use Rattle.verdicts.proofs.clear_verdict.Statement.{statement}
 use Rattle.verdicts.proofs.clear_verdict.Tie as tie
 
@@ -8,8 +9,7 @@ clear-verdict-spec =
     tie.close
     (tie.spec
     (λ c κs. search needs)
-    (λ c. search needs)
-    (λ c. search (clear-unfit, needs))
-    (λ c. search needs)
-    (λ c κs. search fit-passed)
-    (λ c. search clear-slot))
+    (λ c κs. search needs)
+    (λ c. search (clear-no, not-true, needs))
+    (λ c κs. search (fit-true, not-false))
+    (λ c. search (clear-yes, not-false, needs)))

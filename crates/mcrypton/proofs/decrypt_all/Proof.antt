@@ -1,0 +1,74 @@
+-- `mcrypton::decrypt_all` meets its contract. At the loop's head v is the register after r steps, and a the arrays after r rounds.
+use mathlib.Core.Path.{_≡_, ap, _∙_}
+use Prim.Native.Nat.{ℕ, _+_, _-_, _≤_}
+use native.Mathlib.Omega.{arith}
+use lib.ListN.{length}
+use Rattle.rounds.specs.Array.{sboxes, tables, φ}
+use Rattle.rounds.specs.declared.Direction.the-variants.{Decrypt}
+use Rattle.schedule.specs.Schedule.{backward, roundKey}
+use Rattle.schedule.specs.declared.Register.{Register}
+use Rattle.mcrypton.specs.Registers.{decryptFrom}
+use Rattle.mcrypton.proofs.Each.{map-length, EachAt, each-begun, each-more, each-ended}
+use borrow.Author.Needs.{needs}
+use Rattle.mcrypton.proofs.decrypt_all.Statement.{statement}
+use Rattle.mcrypton.proofs.decrypt_all.Tie as tie
+
+abbrev Inv-loop : tie.InvT-loop
+Inv-loop a₀ s t v₀ r₀ a v r = (s ≡ sboxes) × (t ≡ tables) × (r ≤ 12) × (v .round + r ≡ 12) × EachAt Decrypt 0 backward (λ u. φ (roundKey u)) v₀ a₀ r v a
+
+abbrev μ-loop : tie.MeasureT-loop
+μ-loop a₀ s t v₀ r₀ a v r = 12 - r
+
+next : (c : tie.After-backward Inv-loop μ-loop) → c .backward .result .round + (c .before .before .loop .r + 1) ≡ 12
+unfolding backward
+next c = let e = ap (λ (x : Register). x .round) (c .backward .ensures) in omega (arith, e, c .before .before .loop .inv .3, c .before .loop-test .taken)
+
+round-key-requires : tie.Need-round-key-requires Inv-loop μ-loop
+round-key-requires c κs = (omega (arith, c .before .before .before .pre), c .before .before .sbox-tables .ensures)
+
+loop-holds : tie.Need-loop-holds Inv-loop μ-loop
+loop-holds c =
+    let w = c .before .before .before .before .before .before in
+    (w .before .sbox-tables .ensures, w .word-tables .ensures, search needs, omega (arith, w .before .before .pre), each-begun Decrypt 0 backward (λ u. φ (roundKey u)) _ _)
+
+loop-again : tie.Need-loop-again Inv-loop μ-loop
+loop-again c =
+    let p = c .before .before .before in
+    let b = p .before .before .before .before in
+    let l = b .before .before .loop in
+    (l .inv .0, l .inv .1, search needs, next b, each-more Decrypt 0 backward (λ u. φ (roundKey u)) _ _ (l .r) _ _ _ _ _ (l .inv .4) (b .backward .ensures) (p .phi2 .ensures ∙ ap φ (p .before .round-key2 .ensures)) (c .before .round-all .ensures))
+
+returns : tie.Need-returns Inv-loop μ-loop
+unfolding decryptFrom
+returns c =
+    let q = c .before in
+    let l = q .before .before .before in
+    let h = l .before .before in
+    let f = h .before .before in
+    each-ended Decrypt 0 backward (λ u. φ (roundKey u)) _ _ (f .before .before .before .before .before .args .a .now) (l .loop .r) _ _ _ _ (l .loop .inv .2) (q .before .before .loop-test .left) (l .loop .inv .4) (f .phi .ensures ∙ ap φ (f .before .round-key .ensures)) (h .sigma-all .ensures) (q .phi-all .ensures)
+
+same-length : tie.Need-same-length Inv-loop μ-loop
+same-length c = let a = c .before .before .before .before .before .before .before .before .before .before .before .before .before .args in ap length (returns c) ∙ map-length (decryptFrom 0 (a .u)) (a .a .now)
+
+pub decrypt-all-spec : {M : Type 1} → statement M
+decrypt-all-spec =
+    tie.close
+    (tie.spec
+    Inv-loop
+    μ-loop
+    (λ c κs. search needs)
+    (λ c κs. search needs)
+    round-key-requires
+    (λ c κs. search needs)
+    (λ c κs. search needs)
+    loop-holds
+    (λ c κs. omega (arith, c .before .loop .inv .3, c .loop-test .taken))
+    (λ c κs. (omega (arith, next (c .before .before)), c .before .before .before .before .loop .inv .0))
+    (λ c κs. search needs)
+    (λ c κs. c .before .before .before .before .before .before .before .loop .inv .1)
+    (λ c. search needs)
+    (λ c. search needs)
+    loop-again
+    (λ c κs. search needs)
+    same-length
+    returns)

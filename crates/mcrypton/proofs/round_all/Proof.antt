@@ -1,0 +1,44 @@
+-- `mcrypton::round_all` meets its contract. The loop's invariant: the first i arrays are done.
+use mathlib.Core.Path.{_≡_}
+use Prim.Native.Nat.{_≤_, _-_}
+use native.Mathlib.Omega.{arith}
+use lib.ListN.{length}
+use Rattle.rounds.specs.Array.{tables, wordRound}
+use Rattle.rounds.specs.declared.Direction.the-variants.{Decrypt}
+use Rattle.mcrypton.proofs.Each.{mapped, mapped-none, mapped-next, mapped-all}
+use borrow.Author.Needs.{needs}
+use Rattle.mcrypton.proofs.round_all.Statement.{statement}
+use Rattle.mcrypton.proofs.round_all.Tie as tie
+
+abbrev Inv-loop : tie.InvT-loop
+Inv-loop t k a₀ i₀ a i = (t ≡ tables) × (a ≡ mapped (wordRound Decrypt k) i a₀) × (length a ≡ length a₀) × (i ≤ length a₀)
+
+abbrev μ-loop : tie.MeasureT-loop
+μ-loop t k a₀ i₀ a i = length a₀ - i
+
+loop-again : tie.Need-loop-again Inv-loop μ-loop
+loop-again c =
+    let l = c .before .before .before .loop in
+    let t = c .before .before .loop-test .taken in
+    (l .inv .0, mapped-next (wordRound Decrypt (c .before .before .before .before .args .k)) _ _ (l .i) _ (l .inv .1) (omega (arith, t, l .inv .2)) (c .decrypt-round .ensures), search needs, omega (arith, t, l .inv .2))
+
+returns : tie.Need-returns Inv-loop μ-loop
+returns c = let l = c .before .loop in mapped-all (wordRound Decrypt (c .before .before .args .k)) _ _ (l .i) (l .inv .1) (omega (arith, c .loop-test .left, l .inv .2))
+
+pub round-all-spec : {M : Type 1} → statement M
+round-all-spec =
+    tie.close
+    (tie.spec
+    Inv-loop
+    μ-loop
+    (λ c. search (mapped-none, needs))
+    (λ c. search needs)
+    (λ c. search needs)
+    (λ c κs. search needs)
+    (λ c. search needs)
+    (λ c. search needs)
+    (λ c. search needs)
+    (λ c. search needs)
+    loop-again
+    (λ c. search needs)
+    returns)
