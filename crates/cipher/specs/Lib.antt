@@ -1,2 +1,3 @@
 pub mod Key
 pub mod Promise
+pub mod Field

@@ -3,7 +3,9 @@ use schedule::Register;
 ghost use mathlib.Core.Path.{_≡_};
 ghost use mathlib.Core.List.{map};
 ghost use Rattle.cipher.specs.Key.{mcryptonClass, classKnown, keyBytes, sheetKeyLength, loaded, keyRegister, encrypted, decrypted};
-ghost use Prim.Native.Nat.{_<_};
+ghost use Rattle.cipher.specs.Field.{blocks};
+ghost use Prim.Native.Nat.{_<_, _≤_};
+ghost use lib.ListN.{length};
 ghost use Rattle.mcrypton.specs.Bytes.{wordsOf, bytesOf};
 
 // A loaded key: its class (the number of its words) and its words.
@@ -87,14 +89,14 @@ pub fn decrypt(k: Key, b: [u8; 8]) -> [u8; 8]
 }
 
 // The words of the 24 blocks of a field, and their bytes.
-fn field_words(b: [[u8; 8]; 24]) -> [[u16; 4]; 24]
-    ensures { λ r. ⌜ r ≡ map wordsOf b ⌝ }
+fn field_words(s: &[u8]) -> [[u16; 4]; 24]
+    requires { ⌜ 192 ≤ length (now s) ⌝ }
+    ensures { λ r. ⌜ r ≡ map wordsOf (blocks 24 (now (s .entry))) ⌝ }
 {
     let mut a = [[0u16; 4]; 24];
     let mut i = 0;
     while i < 24 {
-        let x = b[i];
-        let y = mcrypton::block_words(x);
+        let y = mcrypton::block_words(octets::block_at(s, 8 * i));
         a[i] = y;
         i += 1;
     }
@@ -116,10 +118,11 @@ fn field_bytes(a: [[u16; 4]; 24]) -> [[u8; 8]; 24]
 }
 
 // The 24 blocks of a field decrypted, each by itself: what they share is the walk of the key's register.
-pub fn decrypt_blocks(k: Key, b: [[u8; 8]; 24]) -> [[u8; 8]; 24]
-    ensures { λ r. ⌜ r ≡ map (decrypted k) b ⌝ }
+pub fn decrypt_blocks(k: Key, s: &[u8]) -> [[u8; 8]; 24]
+    requires { ⌜ 192 ≤ length (now s) ⌝ }
+    ensures { λ r. ⌜ r ≡ map (decrypted k) (blocks 24 (now (s .entry))) ⌝ }
 {
-    let mut a = field_words(b);
+    let mut a = field_words(s);
     mcrypton::decrypt_all(register(k).backward_start(), &mut a);
     field_bytes(a)
 }

@@ -1,6 +1,6 @@
 pub mod Paths
 pub mod Opens
-pub mod Loop
+pub mod Remaining
 pub mod WordsOf
 pub mod ByteBlocks
 pub mod Calls

@@ -7,9 +7,9 @@ ghost use lib.ListN.{getD, length};
 ghost use mathlib.Core.List.{map};
 ghost use Rattle.rounds.specs.Array.{tables, σ, φ, wordRound};
 ghost use Rattle.rounds.specs.declared.Direction.the-variants.{Decrypt};
-ghost use Rattle.schedule.specs.Schedule.{eightWords, start as startOf};
+ghost use Rattle.schedule.specs.Schedule.{eightWords, start as startOf, roundKey};
 ghost use Rattle.mcrypton.specs.Cipher.{pathRound};
-ghost use Rattle.mcrypton.specs.Registers.{encryptFrom, decryptFrom};
+ghost use Rattle.mcrypton.specs.Registers.{KeyAsked, encryptFrom, decryptFrom};
 ghost use Rattle.mcrypton.specs.Bytes.{keyLength, wordsOf, bytesOf};
 ghost use Rattle.mcrypton.specs.Calls.{blockOutcome, accepting, encrypting, decrypting};
 
@@ -86,46 +86,57 @@ fn decrypt_by_path(p: u16, u: Register, b: [u16; 4]) -> [u16; 4]
     rounds::phi(a)
 }
 
+// The key of round r, which is the register's round said again: where it is a literal the compiler knows the round's constant.
+// The word tables are there for the contract alone: what was lent is said again, so that a round's need is found near it.
+fn key_of(s: &[[u16; 16]; 4], t: &[[u16; 16]; 4], v: Register, r: usize) -> [u16; 4]
+    requires { ⌜ KeyAsked (now s) (now t) v r ⌝ }
+    ensures { λ k. ⌜ (k ≡ roundKey v) × KeyAsked (now (s .entry)) (now (t .entry)) v r ⌝ }
+{
+    let words = v.words;
+    let w = Register {
+        words,
+        count: v.count,
+        round: r,
+    };
+    w.round_key(s)
+}
+
 // A block encrypted by words alone: any path number gives the same, and this spares the choice in each round.
-// The rounds are written out from a register whose round is a literal, so that the compiler knows each constant. The register
-// takes two steps before two rounds, so that its word count is asked for once in two: together an eighth of the instructions.
+// The rounds are written out, each with its number as a literal, so that the compiler knows its constant. The register takes two
+// steps before two rounds, so that its word count is asked for once in two: together an eighth of the instructions.
 pub fn encrypt_words(u: Register, b: [u16; 4]) -> [u16; 4]
     requires { ⌜ u .round ≡ 0 ⌝ }
     ensures { λ z. ⌜ z ≡ encryptFrom 0 u b ⌝ }
 {
-    let s = rounds::sbox_tables();
-    let t = rounds::word_tables();
-    let words = u.words;
-    let v0 = Register {
-        words,
-        count: u.count,
-        round: 0,
-    };
-    let a0 = rounds::sigma(v0.round_key(&s), b);
-    let v1 = v0.forward();
+    let sboxes = rounds::sbox_tables();
+    let tables = rounds::word_tables();
+    let s = &sboxes;
+    let t = &tables;
+    let a0 = rounds::sigma(key_of(s, t, u, 0), b);
+    let v1 = u.forward();
     let v2 = v1.forward();
-    let a1 = rounds::encrypt_round(&t, v1.round_key(&s), a0);
-    let a2 = rounds::encrypt_round(&t, v2.round_key(&s), a1);
+    let a1 = rounds::encrypt_round(t, key_of(s, t, v1, 1), a0);
+    let a2 = rounds::encrypt_round(t, key_of(s, t, v2, 2), a1);
     let v3 = v2.forward();
     let v4 = v3.forward();
-    let a3 = rounds::encrypt_round(&t, v3.round_key(&s), a2);
-    let a4 = rounds::encrypt_round(&t, v4.round_key(&s), a3);
+    let a3 = rounds::encrypt_round(t, key_of(s, t, v3, 3), a2);
+    let a4 = rounds::encrypt_round(t, key_of(s, t, v4, 4), a3);
     let v5 = v4.forward();
     let v6 = v5.forward();
-    let a5 = rounds::encrypt_round(&t, v5.round_key(&s), a4);
-    let a6 = rounds::encrypt_round(&t, v6.round_key(&s), a5);
+    let a5 = rounds::encrypt_round(t, key_of(s, t, v5, 5), a4);
+    let a6 = rounds::encrypt_round(t, key_of(s, t, v6, 6), a5);
     let v7 = v6.forward();
     let v8 = v7.forward();
-    let a7 = rounds::encrypt_round(&t, v7.round_key(&s), a6);
-    let a8 = rounds::encrypt_round(&t, v8.round_key(&s), a7);
+    let a7 = rounds::encrypt_round(t, key_of(s, t, v7, 7), a6);
+    let a8 = rounds::encrypt_round(t, key_of(s, t, v8, 8), a7);
     let v9 = v8.forward();
     let v10 = v9.forward();
-    let a9 = rounds::encrypt_round(&t, v9.round_key(&s), a8);
-    let a10 = rounds::encrypt_round(&t, v10.round_key(&s), a9);
+    let a9 = rounds::encrypt_round(t, key_of(s, t, v9, 9), a8);
+    let a10 = rounds::encrypt_round(t, key_of(s, t, v10, 10), a9);
     let v11 = v10.forward();
     let v12 = v11.forward();
-    let a11 = rounds::encrypt_round(&t, v11.round_key(&s), a10);
-    let a12 = rounds::encrypt_round(&t, v12.round_key(&s), a11);
+    let a11 = rounds::encrypt_round(t, key_of(s, t, v11, 11), a10);
+    let a12 = rounds::encrypt_round(t, key_of(s, t, v12, 12), a11);
     rounds::phi(a12)
 }
 
@@ -134,39 +145,35 @@ pub fn decrypt_words(u: Register, b: [u16; 4]) -> [u16; 4]
     requires { ⌜ u .round ≡ 12 ⌝ }
     ensures { λ z. ⌜ z ≡ decryptFrom 0 u b ⌝ }
 {
-    let s = rounds::sbox_tables();
-    let t = rounds::word_tables();
-    let words = u.words;
-    let v0 = Register {
-        words,
-        count: u.count,
-        round: 12,
-    };
-    let a0 = rounds::sigma(rounds::phi(v0.round_key(&s)), b);
-    let v1 = v0.backward();
+    let sboxes = rounds::sbox_tables();
+    let tables = rounds::word_tables();
+    let s = &sboxes;
+    let t = &tables;
+    let a0 = rounds::sigma(rounds::phi(key_of(s, t, u, 12)), b);
+    let v1 = u.backward();
     let v2 = v1.backward();
-    let a1 = rounds::decrypt_round(&t, rounds::phi(v1.round_key(&s)), a0);
-    let a2 = rounds::decrypt_round(&t, rounds::phi(v2.round_key(&s)), a1);
+    let a1 = rounds::decrypt_round(t, rounds::phi(key_of(s, t, v1, 11)), a0);
+    let a2 = rounds::decrypt_round(t, rounds::phi(key_of(s, t, v2, 10)), a1);
     let v3 = v2.backward();
     let v4 = v3.backward();
-    let a3 = rounds::decrypt_round(&t, rounds::phi(v3.round_key(&s)), a2);
-    let a4 = rounds::decrypt_round(&t, rounds::phi(v4.round_key(&s)), a3);
+    let a3 = rounds::decrypt_round(t, rounds::phi(key_of(s, t, v3, 9)), a2);
+    let a4 = rounds::decrypt_round(t, rounds::phi(key_of(s, t, v4, 8)), a3);
     let v5 = v4.backward();
     let v6 = v5.backward();
-    let a5 = rounds::decrypt_round(&t, rounds::phi(v5.round_key(&s)), a4);
-    let a6 = rounds::decrypt_round(&t, rounds::phi(v6.round_key(&s)), a5);
+    let a5 = rounds::decrypt_round(t, rounds::phi(key_of(s, t, v5, 7)), a4);
+    let a6 = rounds::decrypt_round(t, rounds::phi(key_of(s, t, v6, 6)), a5);
     let v7 = v6.backward();
     let v8 = v7.backward();
-    let a7 = rounds::decrypt_round(&t, rounds::phi(v7.round_key(&s)), a6);
-    let a8 = rounds::decrypt_round(&t, rounds::phi(v8.round_key(&s)), a7);
+    let a7 = rounds::decrypt_round(t, rounds::phi(key_of(s, t, v7, 5)), a6);
+    let a8 = rounds::decrypt_round(t, rounds::phi(key_of(s, t, v8, 4)), a7);
     let v9 = v8.backward();
     let v10 = v9.backward();
-    let a9 = rounds::decrypt_round(&t, rounds::phi(v9.round_key(&s)), a8);
-    let a10 = rounds::decrypt_round(&t, rounds::phi(v10.round_key(&s)), a9);
+    let a9 = rounds::decrypt_round(t, rounds::phi(key_of(s, t, v9, 3)), a8);
+    let a10 = rounds::decrypt_round(t, rounds::phi(key_of(s, t, v10, 2)), a9);
     let v11 = v10.backward();
     let v12 = v11.backward();
-    let a11 = rounds::decrypt_round(&t, rounds::phi(v11.round_key(&s)), a10);
-    let a12 = rounds::decrypt_round(&t, rounds::phi(v12.round_key(&s)), a11);
+    let a11 = rounds::decrypt_round(t, rounds::phi(key_of(s, t, v11, 1)), a10);
+    let a12 = rounds::decrypt_round(t, rounds::phi(key_of(s, t, v12, 0)), a11);
     rounds::phi(a12)
 }
 

@@ -7,4 +7,3 @@ pub mod Laws
 pub mod Refusals
 pub mod Cases
 pub mod Printed
-pub mod Field

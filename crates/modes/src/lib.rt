@@ -1,10 +1,10 @@
 // CBC of NIST SP 800-38A and CMAC of NIST SP 800-38B over a cipher with a block of 64 bits.
 ghost use mathlib.Core.Path.{_≡_};
-ghost use mathlib.Core.List.{List, [], _++_};
+ghost use mathlib.Core.List.{List, _++_};
 ghost use Prim.Native.Nat.{ℕ, _+_, _-_, _*_, _/_, _%_, _≤_, _<_};
 ghost use lib.Dec.{eqb};
-ghost use lib.ListN.{length, getD};
-ghost use Rattle.octets.specs.Bytes.{part, put, zeros};
+ghost use lib.ListN.{length};
+ghost use Rattle.octets.specs.Bytes.{put, zeros};
 ghost use Rattle.cipher.specs.Key.{encrypted, decrypted};
 ghost use Rattle.modes.specs.Xor.{xorBytes};
 ghost use Rattle.modes.specs.CBC.{cbcEncrypt, cbcDecrypt};
@@ -63,34 +63,18 @@ fn decrypt_one(k: cipher::Key, c: [u8; 8], s: &[u8], out: &mut [u8])
     put_plain(out, 0, d, c);
 }
 
-// The 24 blocks of a field.
-fn field_blocks(s: &[u8]) -> [[u8; 8]; 24]
-    requires { ⌜ 192 ≤ length (now s) ⌝ }
-    ensures { λ r. ⌜ ((i : ℕ) → i < 24 → getD r i [] ≡ part (now (s .entry)) (8 * i) 8) ⌝ }
-{
-    let mut b = [[0u8; 8]; 24];
-    let mut i = 0;
-    while i < 24 {
-        let x = octets::block_at(s, 8 * i);
-        b[i] = x;
-        i += 1;
-    }
-    b
-}
-
 // The first 24 blocks of s, a field, of which the first is chained to c.
 fn decrypt_field(k: cipher::Key, c: [u8; 8], s: &[u8], out: &mut [u8])
     requires { ⌜ (192 ≤ length (now s)) × (length (now out) ≡ 192) ⌝ }
     ensures { λ _. ⌜ now (out .exit) ≡ cbcDecrypt (decrypted k) 24 c (now (s .entry)) ⌝ }
 {
-    let b = field_blocks(s);
-    let d = cipher::decrypt_blocks(k, b);
+    let d = cipher::decrypt_blocks(k, s);
     let mut before = c;
     let mut i = 0;
     while i < 24 {
         let x = d[i];
         put_plain(out, 8 * i, x, before);
-        let next = b[i];
+        let next = octets::block_at(s, 8 * i);
         before = next;
         i += 1;
     }

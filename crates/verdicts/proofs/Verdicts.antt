@@ -18,7 +18,6 @@ use Rattle.layout.specs.declared.Shape.{Shape}
 use Rattle.layout.proofs.Header.{count-high}
 use Rattle.layout.proofs.Fits.{fit-facts, fits-header, fits-class-small, slot-long}
 use Rattle.faults.specs.Faults.{firstFault}
-use Rattle.faults.specs.declared.Fault.{Fault}
 use Rattle.captions.specs.Answers.{firstOf}
 use Rattle.captions.specs.Captions.{Keys, pair, loadedFor, otherKeys}
 use Rattle.captions.specs.Calls.{wrongKeys, otherClass, spanRow, unfitRow, classRow, markRow, slotRow, blankRow, keyTests, captionTests, classTests, sheetTests, windowTests, openTests, writeTests, clearTests, blankTests}

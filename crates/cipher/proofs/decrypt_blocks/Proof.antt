@@ -1,12 +1,11 @@
 -- `cipher::decrypt_blocks` meets its contract.
-use mathlib.Core.Path.{_≡_, ap, ap₂, _∙_}
-use mathlib.Core.List.{List, map}
-use Prim.Native.Nat.{ℕ}
+use mathlib.Core.Path.{ap, _∙_}
+use mathlib.Core.List.{map, map-map}
 use Rattle.schedule.specs.Schedule.{backStart}
 use Rattle.schedule.specs.declared.Register.{Register}
 use Rattle.mcrypton.specs.Bytes.{wordsOf, bytesOf}
 use Rattle.mcrypton.specs.Registers.{decryptFrom}
-use Rattle.mcrypton.proofs.Each.{map-fuse}
+use Rattle.cipher.specs.Field.{blocks}
 use Rattle.cipher.specs.Key.{keyRegister, decrypted}
 use borrow.Author.Needs.{needs}
 use Rattle.cipher.proofs.decrypt_blocks.Statement.{statement}
@@ -22,14 +21,11 @@ returns c =
     let d = c .before .before in
     let s = d .before .before in
     let w = s .before .before in
-    let a = w .before .args in
-    let u = backStart (keyRegister (a .k)) in
+    let b = blocks 24 (w .before .before .args .s .now) in
+    let u = backStart (keyRegister (w .before .before .args .k)) in
     c .field-bytes .ensures
-    ∙ ap (map bytesOf)
-    (d .decrypt-all .ensures
-    ∙ ap₂ (λ (v : Register) (l : List (List ℕ)). map (decryptFrom 0 v) l) (s .backward-start .ensures ∙ ap backStart (s .before .register .ensures)) (w .field-words .ensures)
-    ∙ map-fuse (decryptFrom 0 u) wordsOf (a .b))
-    ∙ map-fuse bytesOf (λ x. decryptFrom 0 u (wordsOf x)) (a .b)
+    ∙ rw (d .decrypt-all .ensures, s .backward-start .ensures, s .before .register .ensures, w .field-words .ensures)
+    (ap (map bytesOf) (map-map (decryptFrom 0 u) wordsOf b) ∙ map-map bytesOf (λ x. decryptFrom 0 u (wordsOf x)) b)
 
 pub decrypt-blocks-spec : {M : Type 1} → statement M
 decrypt-blocks-spec = tie.close (tie.spec (λ c κs. search needs) (λ c κs. search needs) (λ c κs. search needs) (λ c. search needs) decrypt-all-requires (λ c κs. search needs) returns)

@@ -1,28 +1,25 @@
--- `cipher::field_bytes` meets its contract. The loop's invariant: the first i blocks are done.
+-- `cipher::field_bytes` meets its contract. The loop's invariant: what remains is what there was to do.
 use mathlib.Core.Path.{_≡_, sym, _∙_}
+use mathlib.Core.List.{map}
 use Prim.Native.Nat.{_≤_, _-_}
-use native.Mathlib.Omega.{arith}
 use lib.ListN.{length}
 use Rattle.mcrypton.specs.Bytes.{bytesOf}
-use Rattle.mcrypton.proofs.Each.{filled, filled-none, filled-next, filled-all}
+use Rattle.mcrypton.proofs.Each.{each, each-none, each-next, each-all}
 use borrow.Author.Needs.{needs}
 use Rattle.cipher.proofs.field_bytes.Statement.{statement}
 use Rattle.cipher.proofs.field_bytes.Tie as tie
 
 abbrev Inv-loop : tie.InvT-loop
-Inv-loop a b₀ i₀ b i = (b ≡ filled bytesOf i a b₀) × (length a ≡ 24) × (length b₀ ≡ 24) × (i ≤ 24)
+Inv-loop a b₀ i₀ b i = (each bytesOf i b a ≡ map bytesOf a) × (length a ≡ 24) × (length b ≡ 24) × (i ≤ 24)
 
 abbrev μ-loop : tie.MeasureT-loop
 μ-loop a b₀ i₀ b i = 24 - i
 
 loop-again : tie.Need-loop-again Inv-loop μ-loop
-loop-again c =
-    let l = c .before .before .before .loop in
-    let t = c .before .before .loop-test .taken in
-    (filled-next bytesOf _ _ _ (l .i) _ (l .inv .0) (l .inv .2 ∙ sym (l .inv .1)) (omega (arith, t, l .inv .1)) (c .block-bytes .ensures), l .inv .1, l .inv .2, omega (arith, t))
+loop-again c = let l = c .before .before .before .loop in (each-next bytesOf (l .i) _ _ (search needs) (search needs) (c .block-bytes .ensures) ∙ l .inv .0, l .inv .1, search needs, search needs)
 
 returns : tie.Need-returns Inv-loop μ-loop
-returns c = let l = c .before .loop in filled-all bytesOf _ _ _ (l .i) (l .inv .0) (l .inv .2 ∙ sym (l .inv .1)) (omega (arith, c .loop-test .left, l .inv .1))
+returns c = let l = c .before .loop in sym (each-all bytesOf (l .i) (l .b) _ (search needs) (search needs)) ∙ l .inv .0
 
 pub field-bytes-spec : {M : Type 1} → statement M
 field-bytes-spec =
@@ -30,7 +27,7 @@ field-bytes-spec =
     (tie.spec
     Inv-loop
     μ-loop
-    (λ c. search (filled-none, needs))
+    (λ c. search (each-none, needs))
     (λ c. search needs)
     (λ c. search needs)
     (λ c κs. search needs)

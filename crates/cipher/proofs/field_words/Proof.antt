@@ -1,28 +1,36 @@
--- `cipher::field_words` meets its contract. The loop's invariant: the first i blocks are done.
-use mathlib.Core.Path.{_≡_, sym, _∙_}
+-- `cipher::field_words` meets its contract. The loop's invariant: what remains is what there was to do.
+use mathlib.Core.Path.{_≡_, sym, ap, _∙_}
+use mathlib.Core.List.{map}
 use Prim.Native.Nat.{_≤_, _-_}
 use native.Mathlib.Omega.{arith}
 use lib.ListN.{length}
 use Rattle.mcrypton.specs.Bytes.{wordsOf}
-use Rattle.mcrypton.proofs.Each.{filled, filled-none, filled-next, filled-all}
+use Rattle.mcrypton.proofs.Each.{each, each-none, each-next, each-all}
+use Rattle.cipher.specs.Field.{blocks}
+use Rattle.cipher.proofs.Field.{length-blocks, blocks-at}
 use borrow.Author.Needs.{needs}
 use Rattle.cipher.proofs.field_words.Statement.{statement}
 use Rattle.cipher.proofs.field_words.Tie as tie
 
 abbrev Inv-loop : tie.InvT-loop
-Inv-loop b a₀ i₀ a i = (a ≡ filled wordsOf i b a₀) × (length b ≡ 24) × (length a₀ ≡ 24) × (i ≤ 24)
+Inv-loop s a₀ i₀ a i = (each wordsOf i a (blocks 24 s) ≡ map wordsOf (blocks 24 s)) × (length a ≡ 24) × (i ≤ 24) × (192 ≤ length s)
 
 abbrev μ-loop : tie.MeasureT-loop
-μ-loop b a₀ i₀ a i = 24 - i
+μ-loop s a₀ i₀ a i = 24 - i
 
 loop-again : tie.Need-loop-again Inv-loop μ-loop
 loop-again c =
-    let l = c .before .before .before .loop in
-    let t = c .before .before .loop-test .taken in
-    (filled-next wordsOf _ _ _ (l .i) _ (l .inv .0) (l .inv .2 ∙ sym (l .inv .1)) (omega (arith, t, l .inv .1)) (c .block-words .ensures), l .inv .1, l .inv .2, omega (arith, t))
+    let q = c .before .before .before in
+    let l = q .loop in
+    let s = q .before .before .args .s .now in
+    let y = c .block-words .ensures ∙ ap wordsOf (c .before .block-at .ensures ∙ sym (blocks-at 24 s (l .i) (search needs))) in
+    (each-next wordsOf (l .i) _ (blocks 24 s) (search needs) (omega (arith, length-blocks 24 s, c .before .before .loop-test .taken)) y ∙ l .inv .0, search needs, search needs, l .inv .3)
 
 returns : tie.Need-returns Inv-loop μ-loop
-returns c = let l = c .before .loop in filled-all wordsOf _ _ _ (l .i) (l .inv .0) (l .inv .2 ∙ sym (l .inv .1)) (omega (arith, c .loop-test .left, l .inv .1))
+returns c =
+    let l = c .before .loop in
+    let s = c .before .before .before .args .s .now in
+    sym (each-all wordsOf (l .i) (l .a) (blocks 24 s) (search needs) (omega (arith, length-blocks 24 s, c .loop-test .left))) ∙ l .inv .0
 
 pub field-words-spec : {M : Type 1} → statement M
 field-words-spec =
@@ -30,9 +38,9 @@ field-words-spec =
     (tie.spec
     Inv-loop
     μ-loop
-    (λ c. search (filled-none, needs))
+    (λ c. search (each-none, needs))
     (λ c. search needs)
-    (λ c. search needs)
+    (λ c κs. search needs)
     (λ c κs. search needs)
     (λ c. search needs)
     (λ c. search needs)

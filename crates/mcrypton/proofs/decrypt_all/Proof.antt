@@ -1,20 +1,22 @@
--- `mcrypton::decrypt_all` meets its contract. At the loop's head v is the register after r steps, and a the arrays after r rounds.
-use mathlib.Core.Path.{_≡_, ap, _∙_}
-use Prim.Native.Nat.{ℕ, _+_, _-_, _≤_}
+-- `mcrypton::decrypt_all` meets its contract. The loop's invariant: what remains of the arrays after r rounds is what remained at its start.
+use mathlib.Core.Path.{_≡_, refl, ap, _∙_}
+use mathlib.Core.List.{map}
+use Prim.Native.Nat.{_+_, _-_, _≤_}
 use native.Mathlib.Omega.{arith}
-use lib.ListN.{length}
+use lib.ListN.{length, length-map}
 use Rattle.rounds.specs.Array.{sboxes, tables, φ}
 use Rattle.rounds.specs.declared.Direction.the-variants.{Decrypt}
 use Rattle.schedule.specs.Schedule.{backward, roundKey}
 use Rattle.schedule.specs.declared.Register.{Register}
 use Rattle.mcrypton.specs.Registers.{decryptFrom}
-use Rattle.mcrypton.proofs.Each.{map-length, EachAt, each-begun, each-more, each-ended}
+use Rattle.mcrypton.proofs.Each.{each-round, each-ended}
+use Rattle.mcrypton.proofs.Remaining.{remaining}
 use borrow.Author.Needs.{needs}
 use Rattle.mcrypton.proofs.decrypt_all.Statement.{statement}
 use Rattle.mcrypton.proofs.decrypt_all.Tie as tie
 
 abbrev Inv-loop : tie.InvT-loop
-Inv-loop a₀ s t v₀ r₀ a v r = (s ≡ sboxes) × (t ≡ tables) × (r ≤ 12) × (v .round + r ≡ 12) × EachAt Decrypt 0 backward (λ u. φ (roundKey u)) v₀ a₀ r v a
+Inv-loop a₀ s t v₀ r₀ a v r = (s ≡ sboxes) × (t ≡ tables) × (r ≤ 12) × (v .round + r ≡ 12) × (map (remaining Decrypt 0 backward (λ u. φ (roundKey u)) 12 0 v₀) a₀ ≡ map (remaining Decrypt 0 backward (λ u. φ (roundKey u)) (12 - r) r v) a)
 
 abbrev μ-loop : tie.MeasureT-loop
 μ-loop a₀ s t v₀ r₀ a v r = 12 - r
@@ -29,14 +31,14 @@ round-key-requires c κs = (omega (arith, c .before .before .before .pre), c .be
 loop-holds : tie.Need-loop-holds Inv-loop μ-loop
 loop-holds c =
     let w = c .before .before .before .before .before .before in
-    (w .before .sbox-tables .ensures, w .word-tables .ensures, search needs, omega (arith, w .before .before .pre), each-begun Decrypt 0 backward (λ u. φ (roundKey u)) _ _)
+    (w .before .sbox-tables .ensures, w .word-tables .ensures, search needs, omega (arith, w .before .before .pre), refl)
 
 loop-again : tie.Need-loop-again Inv-loop μ-loop
 loop-again c =
     let p = c .before .before .before in
     let b = p .before .before .before .before in
     let l = b .before .before .loop in
-    (l .inv .0, l .inv .1, search needs, next b, each-more Decrypt 0 backward (λ u. φ (roundKey u)) _ _ (l .r) _ _ _ _ _ (l .inv .4) (b .backward .ensures) (p .phi2 .ensures ∙ ap φ (p .before .round-key2 .ensures)) (c .before .round-all .ensures))
+    (l .inv .0, l .inv .1, search needs, next b, l .inv .4 ∙ each-round Decrypt 0 backward (λ u. φ (roundKey u)) (l .r) _ (l .a) (b .before .loop-test .taken) (b .backward .ensures) (p .phi2 .ensures ∙ ap φ (p .before .round-key2 .ensures)) (c .before .round-all .ensures))
 
 returns : tie.Need-returns Inv-loop μ-loop
 unfolding decryptFrom
@@ -45,10 +47,11 @@ returns c =
     let l = q .before .before .before in
     let h = l .before .before in
     let f = h .before .before in
-    each-ended Decrypt 0 backward (λ u. φ (roundKey u)) _ _ (f .before .before .before .before .before .args .a .now) (l .loop .r) _ _ _ _ (l .loop .inv .2) (q .before .before .loop-test .left) (l .loop .inv .4) (f .phi .ensures ∙ ap φ (f .before .round-key .ensures)) (h .sigma-all .ensures) (q .phi-all .ensures)
+    let b = f .before .before .before .before .before .args .a .now in
+    each-ended Decrypt 0 backward (λ u. φ (roundKey u)) (l .loop .r) _ _ b (l .loop .a) (q .before .before .loop-test .left) (l .loop .inv .4) (f .phi .ensures ∙ ap φ (f .before .round-key .ensures)) (h .sigma-all .ensures) (q .phi-all .ensures)
 
 same-length : tie.Need-same-length Inv-loop μ-loop
-same-length c = let a = c .before .before .before .before .before .before .before .before .before .before .before .before .before .args in ap length (returns c) ∙ map-length (decryptFrom 0 (a .u)) (a .a .now)
+same-length c = let a = c .before .before .before .before .before .before .before .before .before .before .before .before .before .args in ap length (returns c) ∙ length-map (a .a .now) (decryptFrom 0 (a .u))
 
 pub decrypt-all-spec : {M : Type 1} → statement M
 decrypt-all-spec =

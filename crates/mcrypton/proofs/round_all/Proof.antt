@@ -1,29 +1,26 @@
--- `mcrypton::round_all` meets its contract. The loop's invariant: the first i arrays are done.
-use mathlib.Core.Path.{_≡_}
+-- `mcrypton::round_all` meets its contract. The loop's invariant: what remains is what there was to do.
+use mathlib.Core.Path.{_≡_, sym, _∙_}
 use Prim.Native.Nat.{_≤_, _-_}
-use native.Mathlib.Omega.{arith}
+use mathlib.Core.List.{map}
 use lib.ListN.{length}
 use Rattle.rounds.specs.Array.{tables, wordRound}
 use Rattle.rounds.specs.declared.Direction.the-variants.{Decrypt}
-use Rattle.mcrypton.proofs.Each.{mapped, mapped-none, mapped-next, mapped-all}
+use Rattle.mcrypton.proofs.Each.{each, each-none, each-here, each-all}
 use borrow.Author.Needs.{needs}
 use Rattle.mcrypton.proofs.round_all.Statement.{statement}
 use Rattle.mcrypton.proofs.round_all.Tie as tie
 
 abbrev Inv-loop : tie.InvT-loop
-Inv-loop t k a₀ i₀ a i = (t ≡ tables) × (a ≡ mapped (wordRound Decrypt k) i a₀) × (length a ≡ length a₀) × (i ≤ length a₀)
+Inv-loop t k a₀ i₀ a i = (t ≡ tables) × (each (wordRound Decrypt k) i a a ≡ map (wordRound Decrypt k) a₀) × (length a ≡ length a₀) × (i ≤ length a₀)
 
 abbrev μ-loop : tie.MeasureT-loop
 μ-loop t k a₀ i₀ a i = length a₀ - i
 
 loop-again : tie.Need-loop-again Inv-loop μ-loop
-loop-again c =
-    let l = c .before .before .before .loop in
-    let t = c .before .before .loop-test .taken in
-    (l .inv .0, mapped-next (wordRound Decrypt (c .before .before .before .before .args .k)) _ _ (l .i) _ (l .inv .1) (omega (arith, t, l .inv .2)) (c .decrypt-round .ensures), search needs, omega (arith, t, l .inv .2))
+loop-again c = let l = c .before .before .before .loop in (l .inv .0, each-here (wordRound Decrypt (c .before .before .before .before .args .k)) (l .i) _ (search needs) (c .decrypt-round .ensures) ∙ l .inv .1, search needs, search needs)
 
 returns : tie.Need-returns Inv-loop μ-loop
-returns c = let l = c .before .loop in mapped-all (wordRound Decrypt (c .before .before .args .k)) _ _ (l .i) (l .inv .1) (omega (arith, c .loop-test .left, l .inv .2))
+returns c = let l = c .before .loop in sym (each-all (wordRound Decrypt (c .before .before .args .k)) (l .i) (l .a) _ (search needs) (search needs)) ∙ l .inv .1
 
 pub round-all-spec : {M : Type 1} → statement M
 round-all-spec =
@@ -31,7 +28,7 @@ round-all-spec =
     (tie.spec
     Inv-loop
     μ-loop
-    (λ c. search (mapped-none, needs))
+    (λ c. search (each-none, needs))
     (λ c. search needs)
     (λ c. search needs)
     (λ c κs. search needs)
