@@ -5,7 +5,7 @@
 //!
 //! Each call comes in two styles. `Looped` is the baseline: a round a turn, a
 //! block at a time. `SameIdeas` has what the library's speed rests on besides:
-//! the rounds written out, four blocks in one walk of the register, and a
+//! the rounds written out, a field's blocks in one walk of the register, and a
 //! written mark's last bytes compared as one number.
 //!
 //! A read, a dated read and a write test the key mark of edition 3 as the library
@@ -16,6 +16,7 @@ use reference::{
     OVERLONG, TWIN_KEYS, UNFIT_SHEET, WORN, WRONG_KEY, WRONG_SPAN,
 };
 use std::array::from_fn;
+use std::hint::black_box;
 
 type Words = [u16; 4];
 
@@ -331,8 +332,11 @@ impl Style for Looped {
 }
 
 impl Style for SameIdeas {
+    /// The compiler mustn't know the register: with the rounds written out it would
+    /// make the round keys once for all blocks of a message, and so remember them.
     #[inline(always)]
     fn encrypt<R: Register>(key: R, block: u64) -> u64 {
+        let key = black_box(key);
         let state = unrolled!(encryption_round, encryption_start(key, block));
         number(phi(state.1))
     }
@@ -345,18 +349,12 @@ impl Style for SameIdeas {
 
     #[inline(always)]
     fn decrypt_field<R: Register>(key: R, mut before: u64, field: &[u8], window: &mut [u8]) {
-        let (fours, rest) = field.split_at(field.len() / 32 * 32);
-        let (four_outs, rest_out) = window.split_at_mut(fours.len());
-        for (four, out) in fours.chunks_exact(32).zip(four_outs.chunks_exact_mut(32)) {
-            let sealed: [u64; 4] = from_fn(|i| load(&four[8 * i..]));
-            let blocks = decrypt_four(key, sealed);
-            for i in 0..4 {
-                let plain = blocks[i] ^ if i == 0 { before } else { sealed[i - 1] };
-                out[8 * i..][..8].copy_from_slice(&plain.to_be_bytes());
-            }
-            before = sealed[3];
+        let mut states: [Words; FIELD / 8] = from_fn(|i| words(load(&field[8 * i..])));
+        decrypt_all(key, &mut states);
+        for (i, out) in window.chunks_exact_mut(8).enumerate() {
+            out.copy_from_slice(&(number(states[i]) ^ before).to_be_bytes());
+            before = load(&field[8 * i..]);
         }
-        Looped::decrypt_field(key, before, rest, rest_out);
     }
 
     #[inline(always)]
@@ -365,18 +363,24 @@ impl Style for SameIdeas {
     }
 }
 
-/// Four blocks decrypted in one walk of the register.
+/// Blocks decrypted in one walk of the register.
 #[inline(always)]
-fn decrypt_four<R: Register>(key: R, blocks: [u64; 4]) -> [u64; 4] {
+fn decrypt_all<R: Register>(key: R, states: &mut [Words]) {
     let mut register = key.backward_start();
     let first = phi(round_key(register, CONSTANTS[12]));
-    let mut states = blocks.map(|block| xor(words(block), first));
+    for a in &mut *states {
+        *a = xor(*a, first);
+    }
     for r in 1..13 {
         register = register.backward();
         let key = phi(round_key(register, CONSTANTS[12 - r]));
-        states = states.map(|a| xor(mixed(&DECRYPTING, 2, a), key));
+        for a in &mut *states {
+            *a = xor(mixed(&DECRYPTING, 2, *a), key);
+        }
     }
-    states.map(|a| number(phi(a)))
+    for a in states {
+        *a = phi(*a);
+    }
 }
 
 /// The number of a block's 8 bytes.

@@ -33,9 +33,11 @@ The calls of a row are sampled in turn, round by round: {ROUNDS} rounds, samples
 {SAMPLE:?}. A figure is the median of a call's samples, a ratio the median over the
 rounds of library / baseline, or library / same ideas. No output feeds the next call;
 arguments and results go through black_box; the buffers are warm. No speed is asserted.
-The same ideas in Rust: the baseline with its rounds written out, four blocks decrypted
-in one walk of the register, a mark's last bytes compared as one number, and the starts
-of the months along a line in place of a table.
+The same ideas in Rust: the baseline with its rounds written out, a field's blocks
+decrypted in one walk of the register, a mark's last bytes compared as one number, and
+the starts of the months along a line in place of a table. Its register goes through
+black_box for each block encrypted: else the compiler makes the round keys once for a
+message and remembers them, which document 01 rules out.
 Instructions: the library's, and their part of the baseline's, by valgrind."
     );
     let mut meter = Meter::timing();
@@ -196,8 +198,8 @@ layout test alone is a clear of slot n, which is refused after that test.",
         ("dated read", "full", dated_reads, Aims::DatedReads),
         ("write", "full", writes, Aims::Writes),
         ("clear", "full", clears, Aims::None),
-        ("layout test", "full", layout_tests, Aims::FullLayout),
-        ("layout test", "blank", layout_tests, Aims::BlankLayout),
+        ("layout test", "full", layout_tests, Aims::Layout),
+        ("layout test", "blank", layout_tests, Aims::Layout),
     ];
     for (name, state, calls, aim) in calls {
         for n in [1, 16, 256] {
