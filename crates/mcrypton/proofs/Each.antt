@@ -57,4 +57,4 @@ module _ (d : Direction) (p : ℕ) (step : Register → Register) (key : Registe
       ∙ sym (h ∙ map-same _ _ (λ x. ended d p step key r v x l) a)
       ∙ ap (map (remaining d p step key 12 0 u)) g
       ∙ map-map (remaining d p step key 12 0 u) (σ k) b
-      ∙ map-same _ _ (λ x. begun d p step key u x refl f refl) b
+      ∙ map-same _ _ (λ x. begun d p step key u x f refl) b

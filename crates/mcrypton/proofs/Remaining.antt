@@ -57,17 +57,15 @@ module _ (d : Direction) (p : ℕ) (step : Register → Register) (key : Registe
     from (suc n) r m e = from n (suc r) m (omega arith)
 
     -- all twelve rounds, where a is the sum of the block and round key 0
-    pub begun : {v : Register} {k a : List ℕ} → v ≡ u → k ≡ key v → a ≡ σ k b → remaining d p step key 12 0 v a ≡ steps d p (λ m. key (times m step u)) b
+    pub begun : {k a : List ℕ} → k ≡ key u → a ≡ σ k b → remaining d p step key 12 0 u a ≡ steps d p (λ m. key (times m step u)) b
     unfolding steps after times done
-    begun e f g = rw (g, f, e) (from 12 0 12 refl)
+    begun f g = rw (g, f) (from 12 0 12 refl)
 
-pub encrypt-begun : (p : ℕ) (u : Register) (b : List ℕ) {v : Register} {k a : List ℕ} → v ≡ u → k ≡ roundKey v → a ≡ σ k b
-    → remaining Encrypt p forward roundKey 12 0 v a ≡ encryptFrom p u b
+pub encrypt-begun : (p : ℕ) (u : Register) (b : List ℕ) {k a : List ℕ} → k ≡ roundKey u → a ≡ σ k b → remaining Encrypt p forward roundKey 12 0 u a ≡ encryptFrom p u b
 unfolding encryptFrom
 encrypt-begun p u b = begun Encrypt p forward roundKey u b
 
-pub decrypt-begun : (p : ℕ) (u : Register) (b : List ℕ) {v : Register} {k a : List ℕ} → v ≡ u → k ≡ φ (roundKey v) → a ≡ σ k b
-    → remaining Decrypt p backward (λ v. φ (roundKey v)) 12 0 v a ≡ decryptFrom p u b
+pub decrypt-begun : (p : ℕ) (u : Register) (b : List ℕ) {k a : List ℕ} → k ≡ φ (roundKey u) → a ≡ σ k b → remaining Decrypt p backward (λ v. φ (roundKey v)) 12 0 u a ≡ decryptFrom p u b
 unfolding decryptFrom
 decrypt-begun p u b = begun Decrypt p backward (λ v. φ (roundKey v)) u b
 

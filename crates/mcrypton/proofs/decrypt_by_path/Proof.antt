@@ -48,7 +48,7 @@ returns c =
     let l = c .before .before .loop in
     c .phi3 .ensures
     ∙ sym (l .inv .2 ∙ ended Decrypt _ backward (λ u. φ (roundKey u)) (l .r) _ _ (search needs))
-    ∙ decrypt-begun _ _ _ refl (c .before .before .before .before .phi .ensures ∙ ap φ (c .before .before .before .before .before .round-key .ensures)) (c .before .before .before .sigma .ensures)
+    ∙ decrypt-begun _ _ _ (c .before .before .before .before .phi .ensures ∙ ap φ (c .before .before .before .before .before .round-key .ensures)) (c .before .before .before .sigma .ensures)
 
 pub decrypt-by-path-spec : {M : Type 1} → statement M
 decrypt-by-path-spec = tie.close (tie.spec Inv-loop μ-loop (λ c κs. search needs) (λ c κs. search needs) round-key-requires (λ c κs. search needs) (λ c κs. search needs) loop-holds (λ c κs. omega arith) (λ c. search needs) round-key-requires-2 (λ c κs. search needs) path-round-requires (λ c. search needs) (λ c. search needs) loop-again (λ c κs. search needs) returns)

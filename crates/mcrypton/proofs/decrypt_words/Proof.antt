@@ -26,7 +26,7 @@ returns c =
     ∙ two-rounds Decrypt 0 backward (λ v. φ (roundKey v)) 4 6 _ _ (c4 .before .before .before .before .before .before .before .backward7 .ensures) (c4 .before .before .before .before .before .before .backward8 .ensures) (c4 .before .before .before .before .phi8 .ensures ∙ ap φ (c4 .before .before .before .before .before .key-of8 .ensures .0)) (c4 .before .before .before .decrypt-round7 .ensures) (c4 .before .phi9 .ensures ∙ ap φ (c4 .before .before .key-of9 .ensures .0)) (c4 .decrypt-round8 .ensures)
     ∙ two-rounds Decrypt 0 backward (λ v. φ (roundKey v)) 2 8 _ _ (c5 .before .before .before .before .before .before .before .backward9 .ensures) (c5 .before .before .before .before .before .before .backward10 .ensures) (c5 .before .before .before .before .phi10 .ensures ∙ ap φ (c5 .before .before .before .before .before .key-of10 .ensures .0)) (c5 .before .before .before .decrypt-round9 .ensures) (c5 .before .phi11 .ensures ∙ ap φ (c5 .before .before .key-of11 .ensures .0)) (c5 .decrypt-round10 .ensures)
     ∙ two-rounds Decrypt 0 backward (λ v. φ (roundKey v)) 0 10 _ _ (c6 .before .before .before .before .before .before .before .backward11 .ensures) (c6 .before .before .before .before .before .before .backward12 .ensures) (c6 .before .before .before .before .phi12 .ensures ∙ ap φ (c6 .before .before .before .before .before .key-of12 .ensures .0)) (c6 .before .before .before .decrypt-round11 .ensures) (c6 .before .phi13 .ensures ∙ ap φ (c6 .before .before .key-of13 .ensures .0)) (c6 .decrypt-round12 .ensures))
-    ∙ decrypt-begun 0 _ _ refl (c0 .before .phi .ensures ∙ ap φ (c0 .before .before .key-of .ensures .0)) (c0 .sigma .ensures)
+    ∙ decrypt-begun 0 _ _ (c0 .before .phi .ensures ∙ ap φ (c0 .before .before .key-of .ensures .0)) (c0 .sigma .ensures)
 
 pub decrypt-words-spec : {M : Type 1} → statement M
 decrypt-words-spec =

@@ -45,7 +45,7 @@ returns c =
     let l = c .before .before .loop in
     c .phi .ensures
     ∙ sym (l .inv .2 ∙ ended Encrypt _ forward roundKey (l .r) _ _ (search needs))
-    ∙ encrypt-begun _ _ _ refl (c .before .before .before .before .round-key .ensures) (c .before .before .before .sigma .ensures)
+    ∙ encrypt-begun _ _ _ (c .before .before .before .before .round-key .ensures) (c .before .before .before .sigma .ensures)
 
 pub encrypt-by-path-spec : {M : Type 1} → statement M
 encrypt-by-path-spec = tie.close (tie.spec Inv-loop μ-loop (λ c κs. search needs) (λ c κs. search needs) round-key-requires (λ c κs. search needs) loop-holds (λ c κs. omega arith) (λ c. search needs) round-key-requires-2 path-round-requires (λ c. search needs) (λ c. search needs) loop-again (λ c κs. search needs) returns)

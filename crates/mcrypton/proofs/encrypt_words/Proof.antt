@@ -25,7 +25,7 @@ returns c =
     ∙ two-rounds Encrypt 0 forward roundKey 4 6 _ _ (c4 .before .before .before .before .before .forward7 .ensures) (c4 .before .before .before .before .forward8 .ensures) (c4 .before .before .before .key-of8 .ensures .0) (c4 .before .before .encrypt-round7 .ensures) (c4 .before .key-of9 .ensures .0) (c4 .encrypt-round8 .ensures)
     ∙ two-rounds Encrypt 0 forward roundKey 2 8 _ _ (c5 .before .before .before .before .before .forward9 .ensures) (c5 .before .before .before .before .forward10 .ensures) (c5 .before .before .before .key-of10 .ensures .0) (c5 .before .before .encrypt-round9 .ensures) (c5 .before .key-of11 .ensures .0) (c5 .encrypt-round10 .ensures)
     ∙ two-rounds Encrypt 0 forward roundKey 0 10 _ _ (c6 .before .before .before .before .before .forward11 .ensures) (c6 .before .before .before .before .forward12 .ensures) (c6 .before .before .before .key-of12 .ensures .0) (c6 .before .before .encrypt-round11 .ensures) (c6 .before .key-of13 .ensures .0) (c6 .encrypt-round12 .ensures))
-    ∙ encrypt-begun 0 _ _ refl (c0 .before .key-of .ensures .0) (c0 .sigma .ensures)
+    ∙ encrypt-begun 0 _ _ (c0 .before .key-of .ensures .0) (c0 .sigma .ensures)
 
 pub encrypt-words-spec : {M : Type 1} → statement M
 encrypt-words-spec =
