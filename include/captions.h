@@ -32,16 +32,17 @@ extern "C" {
 #define CAPTIONS_VERSION "0.6.0"
 const char *captions_version(void);
 
-/* What a call answers: number is CAPTIONS_ACCEPTED or a refusal; length is 0,
- * except for an accepted read, dated or not, where it is the caption's. */
+/* What a call answers, reads and writes aside: number is CAPTIONS_ACCEPTED or a
+ * refusal, and length is 0. */
 typedef struct {
     uint8_t number;
     uint16_t length;
 } captions_answer;
 
-/* What a read, dated or not, and a write answer: beside number and length the
- * rule that gave CAPTIONS_UNFIT_SHEET or CAPTIONS_ALTERED, one of those below;
- * with every other number rule, slot and place are 0. */
+/* What a read, dated or not, and a write answer: the number, the caption's
+ * length with an accepted read, else 0, and the rule that gave
+ * CAPTIONS_UNFIT_SHEET or CAPTIONS_ALTERED, one of those below; with every other
+ * number rule, slot and place are 0. */
 typedef struct {
     uint8_t number;
     uint8_t rule;

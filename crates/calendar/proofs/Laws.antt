@@ -3,7 +3,7 @@ use Prim.Native.Nat.{ℕ, suc, _+_, _%_, _≤_, _<_}
 use mathlib.Core.Path.{_≡_, refl, sym, ap, _∙_, subst, subst₂}
 use mathlib.Core.Bool.{Bool, true, false}
 use mathlib.Core.List.{[], _∷_}
-use mathlib.Core.Logic.{_↔_, _⊎_, inl, inr}
+use mathlib.Core.Logic.{_↔_, _⊎_, inl, inr, ⊎-elim}
 use native.Mathlib.Omega.{arith}
 use native.Mathlib.Numerals.{add-one}
 use native.Mathlib.Decide.{decLe}
@@ -11,7 +11,7 @@ use Rattle.octets.specs.Clauses.{_when_, Answers, Exactly}
 use Rattle.octets.proofs.Clauses.{Reflects, reflects-not, reflects-and, reflects-or, reflects-yes, reflects-no, reflects-as, reflects-eqb, answers-same}
 use Rattle.calendar.specs.Calendar.{leap, yearDays, monthDays, yearsSum, monthsSum, daysBeforeYear, daysBeforeMonth, dayNumber, Date, firstDate, dateOf, DateOutcome, isDate, dayOfDate, dateOfDay}
 use Rattle.calendar.specs.Answers.{dayOutcome, dateOutcome}
-use Rattle.calendar.specs.Laws.{IsLeap, IsDate, Follows, same-month, next-month, next-year, Earlier, first, firsts, SameMonths, CalendarLaws}
+use Rattle.calendar.specs.Laws.{IsLeap, IsDate, Follows, same-month, next-month, next-year, Earlier, by-year, by-month, by-day, first, firsts, lengths, CalendarWords, CalendarLaws}
 use Rattle.calendar.proofs.Months.{month-long, starts-alike}
 use Rattle.calendar.proofs.Count.{Real, next-cases, date-real, date-number, number-grows, year-to-last, number-to-last}
 use Rattle.calendar.proofs.Conversions.{reflects-date, real, day-of-date, refused-date, date-of-day, refused-day, date-of-its-number}
@@ -155,27 +155,62 @@ first-number y m y₀ y₁ m₀ m₁ =
           (day-of-date y m 1 (record { year-from-2000 = y₀; year-to-2099 = y₁; month-from-1 = m₀; month-to-12 = m₁; day-from-1 = omega arith; day-to-last = month-long y m m₀ m₁ })),
     )
 
-same-months : (y z : ℕ) → 2000 ≤ y → y ≤ 2099 → 2000 ≤ z → z ≤ 2099 → leap y ≡ leap z → SameMonths y z
-same-months y z y₀ y₁ z₀ z₁ e =
+same-months : (y z : ℕ) → 2000 ≤ y → y ≤ 2099 → 2000 ≤ z → z ≤ 2099 → leap y ≡ leap z
+    → (m : ℕ) → 1 ≤ m → m ≤ 12 → first y m + first z 1 ≡ first z m + first y 1
+same-months y z y₀ y₁ z₀ z₁ e m m₀ m₁ =
+    omega (
+      arith,
+      first-number y m y₀ y₁ m₀ m₁,
+      first-number z m z₀ z₁ m₀ m₁,
+      first-number y 1 y₀ y₁ (omega arith) (omega arith),
+      first-number z 1 z₀ z₁ (omega arith) (omega arith),
+      starts-alike y z m e,
+      starts-alike y z 1 e,
+    )
+
+-- ---- the words, written out
+
+leap-lengths : (y : ℕ) → IsLeap y → lengths y ≡ 31 ∷ 29 ∷ 31 ∷ 30 ∷ 31 ∷ 30 ∷ 31 ∷ 31 ∷ 30 ∷ 31 ∷ 30 ∷ 31 ∷ []
+unfolding lengths monthDays
+leap-lengths y l = rw (reflects-yes (reflects-leap y) l)
+
+common-lengths : (y : ℕ) → (IsLeap y → ⊥) → lengths y ≡ 31 ∷ 28 ∷ 31 ∷ 30 ∷ 31 ∷ 30 ∷ 31 ∷ 31 ∷ 30 ∷ 31 ∷ 30 ∷ 31 ∷ []
+unfolding lengths monthDays
+common-lengths y l = rw (reflects-no (reflects-leap y) l)
+
+says-follows : (x z : DateOutcome) → Follows x z
+    → ((z .year ≡ x .year) × (z .month ≡ x .month) × (z .day ≡ x .day + 1))
+    ⊎ (((z .year ≡ x .year) × (z .month ≡ x .month + 1) × (z .day ≡ 1))
+    ⊎ ((z .year ≡ x .year + 1) × (z .month ≡ 1) × (z .day ≡ 1)))
+says-follows x z (same-month h a b c) = inl (a, b, c)
+says-follows x z (next-month h g a b c) = inr (inl (a, b, c))
+says-follows x z (next-year h g a b c) = inr (inr (a, b, c))
+
+words : CalendarWords
+words =
     record {
-      moved =
-          λ m m₀ m₁. omega (
-            arith,
-            first-number y m y₀ y₁ m₀ m₁,
-            first-number z m z₀ z₁ m₀ m₁,
-            first-number y 1 y₀ y₁ (omega arith) (omega arith),
-            first-number z 1 z₀ z₁ (omega arith) (omega arith),
-            starts-alike y z m e,
-            starts-alike y z 1 e,
-          );
+      is-leap = λ y. (λ l. (l .by-4, l .not-by-100-or-by-400), λ h. record { by-4 = h .0; not-by-100-or-by-400 = h .1 });
+      is-date = λ y m d. (
+        λ h. (h .year-from-2000, h .year-to-2099, h .month-from-1, h .month-to-12, h .day-from-1, h .day-to-last),
+        λ h. record { year-from-2000 = h .0; year-to-2099 = h .1; month-from-1 = h .2; month-to-12 = h .3; day-from-1 = h .4; day-to-last = h .5 },
+      );
+      leap-lengths = leap-lengths;
+      common-lengths = common-lengths;
+      is-earlier = λ x z. ⊎-elim by-year (λ h. ⊎-elim (by-month (h .0)) (λ g. by-day (h .0) (g .0) (g .1)) (h .1));
+      says-follows = says-follows;
     }
 
 -- ---- all of them
 
 pub calendar-laws : CalendarLaws
-unfolding leap yearDays monthDays yearsSum monthsSum daysBeforeYear daysBeforeMonth dayNumber firstDate isDate dayOfDate first firsts
+unfolding leap yearDays monthDays yearsSum monthsSum daysBeforeYear daysBeforeMonth dayNumber firstDate isDate dayOfDate first firsts dayOutcome dateOutcome
 calendar-laws =
     record {
+      words = words;
+      carries-day = λ n. refl;
+      carries-no-day = refl;
+      carries-date = λ y m d. refl;
+      carries-no-date = refl;
       leap-rule = λ y. (reflects-leap y .holds, reflects-yes (reflects-leap y));
       leap-1900 = refl;
       leap-2000 = refl;

@@ -6,6 +6,9 @@ use mathlib.Core.List.{List, [], _∷_, map}
 use mathlib.Core.Logic.{_↔_, _⊎_}
 use Rattle.octets.specs.Clauses.{_when_, Exactly}
 use Rattle.calendar.specs.Calendar.{leap, monthDays, Date, DateOutcome, dayOfDate, dateOfDay}
+use Rattle.calendar.specs.Answers.{dayOutcome, dateOutcome}
+use Rattle.calendar.specs.declared.DayAnswer.{DayAnswer}
+use Rattle.calendar.specs.declared.DateAnswer.{DateAnswer}
 
 -- a leap year: 4 divides it, and 100 does not or 400 does
 pub record IsLeap (y : ℕ) : Type 0 where
@@ -44,11 +47,32 @@ first y m = (dayOfDate y m 1) .day
 unfoldable pub firsts : ℕ → List ℕ
 firsts y = map (first y) (1 ∷ 2 ∷ 3 ∷ 4 ∷ 5 ∷ 6 ∷ 7 ∷ 8 ∷ 9 ∷ 10 ∷ 11 ∷ 12 ∷ [])
 
--- the firsts of year y are those of year z, moved by as much as the first of January is
-pub record SameMonths (y z : ℕ) : Type 0 where
-  pub moved : (m : ℕ) → 1 ≤ m → m ≤ 12 → first y m + first z 1 ≡ first z m + first y 1
+-- the days of all twelve months
+unfoldable pub lengths : ℕ → List ℕ
+lengths y = map (monthDays y) (1 ∷ 2 ∷ 3 ∷ 4 ∷ 5 ∷ 6 ∷ 7 ∷ 8 ∷ 9 ∷ 10 ∷ 11 ∷ 12 ∷ [])
+
+-- what the words of the laws come to: they ask for no more, and say no less
+pub record CalendarWords : Type 0 where
+  pub is-leap : (y : ℕ) → IsLeap y ↔ ((y % 4 ≡ 0) × ((y % 100 ≡ 0 → ⊥) ⊎ (y % 400 ≡ 0)))
+  pub is-date : (y m d : ℕ) → IsDate y m d ↔ ((2000 ≤ y) × (y ≤ 2099) × (1 ≤ m) × (m ≤ 12) × (1 ≤ d) × (d ≤ monthDays y m))
+  -- the days of the months, of a leap year and of a common one
+  pub leap-lengths : (y : ℕ) → IsLeap y → lengths y ≡ 31 ∷ 29 ∷ 31 ∷ 30 ∷ 31 ∷ 30 ∷ 31 ∷ 31 ∷ 30 ∷ 31 ∷ 30 ∷ 31 ∷ []
+  pub common-lengths : (y : ℕ) → (IsLeap y → ⊥) → lengths y ≡ 31 ∷ 28 ∷ 31 ∷ 30 ∷ 31 ∷ 30 ∷ 31 ∷ 31 ∷ 30 ∷ 31 ∷ 30 ∷ 31 ∷ []
+  -- before: by year, then by month, then by day
+  pub is-earlier : (x z : Date) → (x .year < z .year) ⊎ ((x .year ≡ z .year) × ((x .month < z .month) ⊎ ((x .month ≡ z .month) × (x .day < z .day)))) → Earlier x z
+  -- the day after: the next day, the first of the next month or the first of the next year
+  pub says-follows : (x z : DateOutcome) → Follows x z
+      → ((z .year ≡ x .year) × (z .month ≡ x .month) × (z .day ≡ x .day + 1))
+      ⊎ (((z .year ≡ x .year) × (z .month ≡ x .month + 1) × (z .day ≡ 1))
+      ⊎ ((z .year ≡ x .year + 1) × (z .month ≡ 1) × (z .day ≡ 1)))
 
 pub record CalendarLaws : Type 0 where
+  pub words : CalendarWords
+  -- what the answers carry: the values of a variant in the order in which the source names them, `Day(day)` and `Date { year, month, day }`
+  pub carries-day : (n : ℕ) → dayOutcome (DayAnswer.Day n) ≡ record { number = 0; day = n }
+  pub carries-no-day : dayOutcome DayAnswer.NoSuchDate ≡ record { number = 11; day = 0 }
+  pub carries-date : (y m d : ℕ) → dateOutcome (DateAnswer.Date y m d) ≡ record { number = 0; year = y; month = m; day = d }
+  pub carries-no-date : dateOutcome DateAnswer.NoSuchDate ≡ record { number = 11; year = 0; month = 0; day = 0 }
   -- the leap rule whole: the years of the calendar have no century but 2000
   pub leap-rule : (y : ℕ) → (leap y ≡ true) ↔ IsLeap y
   pub leap-1900 : leap 1900 ≡ false
@@ -77,8 +101,8 @@ pub record CalendarLaws : Type 0 where
   pub follows : (n : ℕ) → n < 36524 → Follows (dateOfDay n) (dateOfDay (n + 1))
   pub earlier : (x z : Date) → IsDate (x .year) (x .month) (x .day) → IsDate (z .year) (z .month) (z .day) → Earlier x z
       → (dayOfDate (x .year) (x .month) (x .day)) .day < (dayOfDate (z .year) (z .month) (z .day)) .day
-  -- the months of a leap year and of a common one, and every year of the calendar has one or the other
+  -- the months of a leap year and of a common one; those of every other year of the calendar are the one or the other, moved by as much as the first of January is
   pub firsts-2000 : firsts 2000 ≡ 0 ∷ 31 ∷ 60 ∷ 91 ∷ 121 ∷ 152 ∷ 182 ∷ 213 ∷ 244 ∷ 274 ∷ 305 ∷ 335 ∷ []
   pub firsts-2001 : firsts 2001 ≡ 366 ∷ 397 ∷ 425 ∷ 456 ∷ 486 ∷ 517 ∷ 547 ∷ 578 ∷ 609 ∷ 639 ∷ 670 ∷ 700 ∷ []
-  pub leap-months : (y : ℕ) → 2000 ≤ y → y ≤ 2099 → IsLeap y → SameMonths y 2000
-  pub common-months : (y : ℕ) → 2000 ≤ y → y ≤ 2099 → (IsLeap y → ⊥) → SameMonths y 2001
+  pub leap-months : (y : ℕ) → 2000 ≤ y → y ≤ 2099 → IsLeap y → (m : ℕ) → 1 ≤ m → m ≤ 12 → first y m + first 2000 1 ≡ first 2000 m + first y 1
+  pub common-months : (y : ℕ) → 2000 ≤ y → y ≤ 2099 → (IsLeap y → ⊥) → (m : ℕ) → 1 ≤ m → m ≤ 12 → first y m + first 2001 1 ≡ first 2001 m + first y 1

@@ -1,7 +1,7 @@
 -- One call on any fit sheet that a pair of keys serves: the sheet stays fit and keeps its header but for the last write number,
 -- the slot reads as what was written or cleared, and every other slot reads as before.
 use Prim.Native.Nat.{ℕ, _+_, _^_, _≤_, _<_}
-use mathlib.Core.Path.{_≡_, refl, sym, ap}
+use mathlib.Core.Path.{_≡_, refl, sym, ap, _∙_}
 use mathlib.Core.Logic.{_≢_}
 use mathlib.Core.Bool.{Bool, true, false, not, _&&_}
 use mathlib.Core.List.{List}
@@ -15,7 +15,7 @@ use Rattle.octets.proofs.Compare.{same-self}
 use Rattle.octets.proofs.Numbers.{number-part-lt}
 use Rattle.octets.proofs.Zeros.{length-zeros, zeros-bytes}
 use Rattle.modes.specs.Laws.{ByteBlocks}
-use Rattle.layout.specs.Layout.{Edition, slots, lastWrite, serial, storedMark, blankSlot, storeSlot, storeLast}
+use Rattle.layout.specs.Layout.{Edition, slots, lastWrite, serial, storedMark, mark, field, blankSlot, storeSlot, storeLast}
 use Rattle.layout.proofs.Fits.{Rules, fit-rules, rules-fit}
 use Rattle.captions.specs.Answers.{firstOf}
 use Rattle.captions.specs.Captions.{Keys, Ciphers, markFor, otherKeys, padded, sealedField, openedField, checkOf, slotMark, storedAs, written, opened, altered, change, cleared}
@@ -139,36 +139,27 @@ module _ (e : Edition) (reg : Regular e) (x : Ciphers) (k : Keys) (s : List ℕ)
 
 -- ---- a slot written
 
--- what a write of number w, slot j and caption c stores in s reads as that caption
-module _ (e : Edition) (reg : Regular e) (x : Ciphers) (k : Keys) (s : List ℕ) (g : Fits e x k s) (ok : Sound x) (w j : ℕ) (c f : List ℕ)
-    (short : length c ≤ 192) (bc : Bytes c) (positive : 1 ≤ w) (small : w < 256 ^ 4) (is : f ≡ sealedField x (e .tail s) w j c) where
-  field-blocks : ByteBlocks 24 f
-  field-blocks = rw is (sealed-blocks x ok (e .tail s) w j c short bc)
+-- a slot that holds number w and the caption c, as a write stores them, reads as that caption
+module _ (e : Edition) (x : Ciphers) (k : Keys) (s : List ℕ) (g : Fits e x k s) (ok : Sound x) (w j : ℕ) (c : List ℕ) (h : j < slots s) (short : length c ≤ 192) (bc : Bytes c)
+    (positive : 1 ≤ w) (small : w < 256 ^ 4) (sealed : field e s j ≡ sealedField x (e .tail s) w j c) (marked : mark e s j ≡ slotMark x w j c (field e s j)) where
+  field-bytes : Bytes (field e s j)
+  field-bytes = rw sealed ((sealed-blocks x ok (e .tail s) w j c short bc) .bytes)
 
-  open-field : (tail : ℕ) → tail ≡ e .tail s → openedField x tail w j f ≡ padded c
-  open-field tail h = rw (h, is) (opened-sealed x ok (e .tail s) w j c short bc)
+  field-opened : openedField x (e .tail s) w j (field e s j) ≡ padded c
+  field-opened = rw sealed (opened-sealed x ok (e .tail s) w j c short bc)
 
-  stored : (j < slots s) → Stored e j w (slotMark x w j c f) f s (storeLast (storeSlot e s j (slotMark x w j c f) f) w)
-  stored h =
-      store-last e s (reg .header-size) ((rules e x k s g) .size) j (lastWrite s) w (slotMark x w j c f) f (storeSlot e s j (slotMark x w j c f) f)
-      (store-slot e s (reg .header-size) ((rules e x k s g) .size) j (slotMark x w j c f) f h ((slotMark-block x ok w j c f short (field-blocks .bytes) small) .size) (field-blocks .size))
-      small
-
-  written-read : (s′ : List ℕ) → Fits e x k s′ → Stored e j w (slotMark x w j c f) f s s′ → j < slots s → (window : List ℕ) → length window ≡ 192
-      → readingWith e x k s′ j window ≡ shown (holds c)
+  pub held-read : (window : List ℕ) → length window ≡ 192 → readingWith e x k s j window ≡ shown (holds c)
   unfolding readingWith readTests openTests windowTests keyTests sheetTests classTests shown
-  written-read s′ g′ st h window l =
-      let b : Bytes f = field-blocks .bytes in
-      decided-past (windowTests e x k s′ j (length window)) _ _ _ _ (read-passed e x k s′ g′ j window (omega (arith, slots-kept (st .header))) l)
+  held-read window l =
+      decided-past (windowTests e x k s j (length window)) _ _ _ _ (read-passed e x k s g j window h l)
       (unfold decided blankSlot altered opened in rw (
-        st .mark-at,
-        st .field-at,
-        slotMark-not-blank x ok w j c f short b small positive,
-        slotMark-number x ok w j c f short b small,
-        slotMark-length x ok w j c f short b small,
-        slotMark-check x ok w j c f short b small,
-        same-self (checkOf x w j (length c) f),
-        open-field (e .tail s′) (sym (reg .tail-kept s s′ (st .header))),
+        marked,
+        slotMark-not-blank x ok w j c (field e s j) short field-bytes small positive,
+        slotMark-number x ok w j c (field e s j) short field-bytes small,
+        slotMark-length x ok w j c (field e s j) short field-bytes small,
+        slotMark-check x ok w j c (field e s j) short field-bytes small,
+        same-self (checkOf x w j (length c) (field e s j)),
+        field-opened,
         padded-rest c,
       ))
 
@@ -181,7 +172,8 @@ stored-effect e reg x k s g ok w j c h short bc positive grows small =
       fits = g′;
       header = st .header;
       last = st .last;
-      at = written-read e reg x k s g ok w j c f short bc positive small refl s′ g′ st h;
+      at = held-read e x k s′ g′ ok w j c (omega (arith, slots-kept (st .header))) short bc positive small
+          (st .field-at ∙ ap (λ (tail : ℕ). sealedField x tail w j c) (reg .tail-kept s s′ (st .header))) (st .mark-at ∙ ap (slotMark x w j c) (sym (st .field-at)));
       others = stored-others e reg x k s g j w m f s′ st g′;
     }
   where
@@ -194,11 +186,17 @@ stored-effect e reg x k s g ok w j c h short bc positive grows small =
     s′ : List ℕ
     s′ = storeLast (storeSlot e s j m f) w
 
+    blocks : ByteBlocks 24 f
+    blocks = sealed-blocks x ok (e .tail s) w j c short bc
+
     b : Bytes f
-    b = (field-blocks e reg x k s g ok w j c f short bc positive small refl) .bytes
+    b = blocks .bytes
 
     st : Stored e j w m f s s′
-    st = stored e reg x k s g ok w j c f short bc positive small refl h
+    st =
+        store-last e s (reg .header-size) ((rules e x k s g) .size) j (lastWrite s) w m f (storeSlot e s j m f)
+        (store-slot e s (reg .header-size) ((rules e x k s g) .size) j m f h ((slotMark-block x ok w j c f short b small) .size) (blocks .size))
+        small
 
     g′ : Fits e x k s′
     g′ =

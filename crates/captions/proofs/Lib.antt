@@ -7,6 +7,7 @@ pub mod Runs
 pub mod Simulation
 pub mod Editions
 pub mod Agree
+pub mod Accepted
 pub mod ReadBack
 pub mod WriteBack
 pub mod BlankSheets

@@ -2,7 +2,7 @@
 use Prim.Native.Nat.{ℕ, _-_, _≤_, _<_}
 use mathlib.Core.Path.{_≡_, refl, sym, ap, _∙_}
 use mathlib.Core.Bool.{Bool, true, false, not, _||_}
-use mathlib.Core.List.{List}
+use mathlib.Core.List.{List, _++_}
 use native.Mathlib.Omega.{arith}
 use lib.Dec.{lit≤}
 use lib.ListN.{length, take, drop, length-drop, take-append-drop}
@@ -17,26 +17,25 @@ use Rattle.octets.proofs.Zeros.{allZero-is}
 use Rattle.modes.specs.Laws.{ByteBlocks}
 use Rattle.layout.specs.Layout.{Edition, slots, lastWrite, markNumber, markLength, markCheck, markAt, fieldAt, mark, field, blankSlot, fitIn}
 use Rattle.faults.specs.Faults.{firstFault}
-use Rattle.captions.specs.Answers.{Outcome, answerNumber, answerLength, outcome}
+use Rattle.captions.specs.Answers.{Outcome, answerNumber, outcome}
 use Rattle.captions.specs.Captions.{Keys, Ciphers, padded, newMark, startBlock, sealedField, openedField, checkOf, slotMark, opened, altered, change}
 use Rattle.captions.specs.Calls.{keyTests, otherClass, classTests, sheetTests, windowTests, openTests, readTests, readingWith}
 use Rattle.captions.specs.Claim.{Sound}
 use Rattle.captions.specs.declared.Answer.{Answer}
 use Rattle.captions.specs.declared.Answer.the-variants.{Accepted, WrongKey, TwinKeys, WrongSpan, UnfitSheet, OtherKeyClass, NoSuchSlot, Blank, Altered, OtherKeys}
-use Rattle.captions.proofs.Tables.{Unmet, end, next, decided-unmet, decided-accepted}
+use Rattle.captions.proofs.Tables.{Unmet, end, next, decided-accepted}
+use Rattle.captions.proofs.Accepted.{zero-read}
 use Rattle.layout.proofs.Fits.{Rules, fit-rules, length-mark, length-field, Written, mark-written, not-blank-written}
 use Rattle.captions.proofs.Slot.{start-block, chaining, be-part}
 
 -- what an accepted read has found
-pub record Read (e : Edition) (x : Ciphers) (k : Keys) (s : List ℕ) (i n : ℕ) (v : List ℕ) : Type 0 where
+pub record Read (e : Edition) (x : Ciphers) (k : Keys) (s : List ℕ) (i : ℕ) : Type 0 where
   pub keys : Unmet (keyTests k)
   pub fits : fitIn e s ≡ true
   pub class : otherClass k s ≡ false
   pub slot : i < slots s
   pub marked : blankSlot e s i ≡ false
   pub unaltered : altered x e s i ≡ false
-  pub count : markLength (mark e s i) ≡ n
-  pub window : opened x e s i ≡ v
 
 pub or-false-left : (a b : Bool) → a || b ≡ false → a ≡ false
 or-false-left true b h = h
@@ -50,24 +49,27 @@ pub refusal : (a : Answer) (n : ℕ) (u v : List ℕ) → 1 ≤ answerNumber a �
 unfolding outcome answerNumber
 refusal a n u v h q = omega (arith, ap (λ (o : Outcome). o .number) q)
 
-pub accepted-read : (e : Edition) (x : Ciphers) (k : Keys) (s : List ℕ) (i n : ℕ) (window v : List ℕ)
-    → readingWith e x k s i window ≡ outcome (Accepted n) v → Read e x k s i n v
-unfolding readingWith readTests openTests windowTests keyTests sheetTests classTests outcome answerNumber answerLength
-accepted-read e x k s i n window v h = go unmet
+pub accepted-read : (e : Edition) (x : Ciphers) (k : Keys) (s : List ℕ) (i : ℕ) (window : List ℕ) → (readingWith e x k s i window) .number ≡ 0 → Read e x k s i
+unfolding readingWith readTests openTests windowTests keyTests sheetTests classTests answerNumber
+accepted-read e x k s i window h = go unmet
   where
+    n : ℕ
+    n = markLength (mark e s i)
+
+    v : List ℕ
+    v = opened x e s i
+
     no : (a : Answer) → 1 ≤ answerNumber a → outcome a (zeros (length window)) ≡ outcome (Accepted n) v → ⊥
     no a = refusal a n (zeros (length window)) v
 
     unmet : Unmet (readTests e x k s i window)
     unmet =
-        decided-accepted (readTests e x k s i window) (outcome (Accepted (markLength (mark e s i))) (opened x e s i)) (λ a. outcome a (zeros (length window))) (outcome (Accepted n) v)
+        decided-accepted (readTests e x k s i window) (outcome (Accepted n) v) (λ a. outcome a (zeros (length window))) (outcome (Accepted n) v)
         (next (no WrongKey (lit≤ tt)) (next (no TwinKeys (lit≤ tt)) (next (no WrongSpan (lit≤ tt)) (next (no (UnfitSheet (firstFault s)) (lit≤ tt)) (next (no OtherKeyClass (lit≤ tt))
-        (next (no OtherKeys (lit≤ tt)) (next (no NoSuchSlot (lit≤ tt)) (next (no Blank (lit≤ tt)) (next (no (Altered i (change x e s i)) (lit≤ tt)) end))))))))) h
+        (next (no OtherKeys (lit≤ tt)) (next (no NoSuchSlot (lit≤ tt)) (next (no Blank (lit≤ tt)) (next (no (Altered i (change x e s i)) (lit≤ tt)) end)))))))))
+        (zero-read e x k s i window h)
 
-    is : outcome (Accepted (markLength (mark e s i))) (opened x e s i) ≡ outcome (Accepted n) v
-    is = sym (decided-unmet (readTests e x k s i window) _ _ unmet) ∙ h
-
-    go : Unmet (readTests e x k s i window) → Read e x k s i n v
+    go : Unmet (readTests e x k s i window) → Read e x k s i
     go (next t₁ (next t₂ (next t₃ (next t₄ (next t₅ (next t₁₄ (next t₆ (next t₉ (next t₁₀ end))))))))) =
         record {
           keys = next t₁ (next t₂ end);
@@ -76,8 +78,6 @@ accepted-read e x k s i n window v h = go unmet
           slot = leb-false (slots s) i t₆;
           marked = t₉;
           unaltered = t₁₀;
-          count = ap (λ (o : Outcome). o .len) is;
-          window = ap (λ (o : Outcome). o .bytes) is;
         }
 
 -- ---- the mark and the field, from what was read
@@ -89,7 +89,14 @@ mark-parts m l b z =
     let pad : part m 6 2 ≡ be 2 0 = allZero-is (part m 6 2) z ∙ ap zeros (length-part m 6 2 (omega arith)) ∙ sym (be-zero 2) in
     sym (rw (be-part m 0 4 (omega arith) b, be-part m 4 2 (omega arith) b, ← pad, ← part-add m 4 2 2, ← part-add m 0 4 4, ← part-add m 0 8 8) (part-all m 16 l))
 
-module _ (e : Edition) (x : Ciphers) (k : Keys) (s : List ℕ) (i n : ℕ) (v : List ℕ) (ok : Sound x) (b : Bytes s) (r : Read e x k s i n v) where
+-- n is the length that the mark stores, and v the window
+module _ (e : Edition) (x : Ciphers) (k : Keys) (s : List ℕ) (i : ℕ) (ok : Sound x) (b : Bytes s) (r : Read e x k s i) where
+  n : ℕ
+  n = markLength (mark e s i)
+
+  v : List ℕ
+  v = opened x e s i
+
   rules : Rules e s
   rules = fit-rules e s (r .fits)
 
@@ -101,43 +108,44 @@ module _ (e : Edition) (x : Ciphers) (k : Keys) (s : List ℕ) (i n : ℕ) (v : 
   field-blocks = record { size = length-field e s rules i (r .slot); bytes = part-bytes (fieldAt (e .header) (slots s) i) 192 b }
 
   length-window : length v ≡ 192
-  unfolding opened openedField
+  unfolding v opened openedField
   length-window =
-      ap length (sym (r .window))
-      ∙ (chaining x ok (e .tail s) (markNumber (mark e s i)) i .decrypts 24 (startBlock x (e .tail s) (markNumber (mark e s i)) i) (field e s i)
+      (chaining x ok (e .tail s) (markNumber (mark e s i)) i .decrypts 24 (startBlock x (e .tail s) (markNumber (mark e s i)) i) (field e s i)
       (start-block x ok (e .tail s) (markNumber (mark e s i)) i) field-blocks) .size
 
-  short : n ≤ 192
-  short = omega (arith, written .short, r .count)
-
-  pub length-caption : length (take n v) ≡ n
-  length-caption = length-take-le n v (omega (arith, short, length-window))
+  length-taken : length (take n v) ≡ n
+  unfolding n
+  length-taken = length-take-le n v (omega (arith, written .short, length-window))
 
   check-is : checkOf x (markNumber (mark e s i)) i (markLength (mark e s i)) (field e s i) ≡ markCheck (mark e s i)
   unfolding altered
   check-is = same-is _ _ (not-false _ (or-false-left _ _ (r .unaltered)))
 
   rest-zero : drop n v ≡ zeros (192 - n)
-  unfolding altered
+  unfolding n v altered
   rest-zero =
       let check : Bool = same (checkOf x (markNumber (mark e s i)) i (markLength (mark e s i)) (field e s i)) (markCheck (mark e s i)) in
-      let zero : allZero (drop (markLength (mark e s i)) (opened x e s i)) ≡ true = not-false _ (or-false-right (not check) _ (r .unaltered)) in
-      allZero-is (drop n v) (rw (r .count, r .window) at zero)
+      allZero-is (drop n v) (not-false _ (or-false-right (not check) _ (r .unaltered)))
       ∙ ap zeros (length-drop n v ∙ ap (λ (l : ℕ). l - n) length-window)
 
-  pub window-padded : v ≡ padded (take n v)
-  unfolding padded
-  window-padded = sym (rw (length-caption, ← rest-zero) (take-append-drop n v))
+  -- in plain words, for the window and the length of an accepted read
+  pub length-caption : length (take (markLength (mark e s i)) (opened x e s i)) ≡ markLength (mark e s i)
+  unfolding n v
+  length-caption = length-taken
 
-  pub field-sealed : field e s i ≡ sealedField x (e .tail s) (markNumber (mark e s i)) i (take n v)
-  unfolding sealedField opened openedField
+  pub window-padded : opened x e s i ≡ take (markLength (mark e s i)) (opened x e s i) ++ zeros (192 - markLength (mark e s i))
+  unfolding n v
+  window-padded = sym (rw (← rest-zero) (take-append-drop n v))
+
+  pub field-sealed : field e s i ≡ sealedField x (e .tail s) (markNumber (mark e s i)) i (take (markLength (mark e s i)) (opened x e s i))
+  unfolding n v sealedField padded opened openedField
   field-sealed =
-      sym (rw (← window-padded, ← r .window)
+      sym (rw (length-taken, ← window-padded)
       (chaining x ok (e .tail s) (markNumber (mark e s i)) i .encrypt-decrypt 24 (startBlock x (e .tail s) (markNumber (mark e s i)) i) (field e s i)
       (start-block x ok (e .tail s) (markNumber (mark e s i)) i) field-blocks))
 
-  pub mark-sealed : mark e s i ≡ slotMark x (markNumber (mark e s i)) i (take n v) (field e s i)
-  unfolding slotMark mark
+  pub mark-sealed : mark e s i ≡ slotMark x (markNumber (mark e s i)) i (take (markLength (mark e s i)) (opened x e s i)) (field e s i)
+  unfolding n v slotMark mark
   mark-sealed =
       mark-parts (mark e s i) (length-mark e s rules i (r .slot)) (part-bytes (markAt (e .header) i) 16 b) (written .pad)
-      ∙ rw (length-caption, ← r .count, check-is)
+      ∙ rw (length-taken, check-is)

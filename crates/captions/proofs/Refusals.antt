@@ -1,6 +1,6 @@
 -- Demand 1, of the calls on a sheet, holds.
 use Prim.Native.Nat.{ℕ, zero, suc, _+_, _-_, _*_, _≤_}
-use mathlib.Core.Path.{_≡_, refl, sym, ap, _∙_}
+use mathlib.Core.Path.{_≡_, refl, sym, ap, _∙_, subst}
 use mathlib.Core.Bool.{Bool, true, false, not, _||_, false≢true}
 use mathlib.Core.List.{List, [], _∷_, _++_}
 use mathlib.Core.Logic.{_⊎_, inl, inr}
@@ -11,8 +11,8 @@ use lib.Seq.{getD-drop}
 use borrow.Author.Tests.{eq-eqb, ne-eqb, eqb-true, leb-false, not-true, not-false}
 use Rattle.octets.specs.Bytes.{if_then_else_, number, zeros, allZero, same, allBelow, be}
 use Rattle.octets.specs.Outcome.{decided}
-use Rattle.octets.specs.Clauses.{Answers, Exactly, Each, none, and}
-use Rattle.octets.proofs.Clauses.{Reflects, reflects-not, reflects-and, reflects-or, reflects-as, reflects-eqb, reflects-leb, reflects-ltb, reflects-same, Means, Refuses, decided-exactly, decided-refused, decided-zero}
+use Rattle.octets.specs.Clauses.{Exactly, OneOf, Each, none, and}
+use Rattle.octets.proofs.Clauses.{Reflects, reflects-not, reflects-and, reflects-or, reflects-as, reflects-eqb, reflects-three, reflects-leb, reflects-ltb, reflects-same, Means, Refuses, decided-exactly, decided-refused, decided-zero}
 use Rattle.octets.proofs.Compare.{same-is, same-eq}
 use Rattle.octets.proofs.Zeros.{allZero-is, getD-zeros}
 use Rattle.cipher.specs.Key.{mcryptonClass, classKnown, keyBytes, sheetKeyLength}
@@ -24,32 +24,23 @@ use Rattle.layout.proofs.Meaning.{reflects-fit, reflects-blank, reflects-words}
 use Rattle.captions.specs.Answers.{Outcome, answerNumber, answerLength, outcome}
 use Rattle.captions.specs.Captions.{Keys, pair, Ciphers, loadedFor, markFor, keyMark, otherKeys, checkOf, opened, altered}
 use Rattle.captions.specs.Calls.{wrongKeys, otherClass, keyTests, captionTests, classTests, sheetTests, windowTests, openTests, writeTests, clearTests, readTests, blankTests, writingWith, clearingWith, readingWith, blankingWith, writing, clearing, reading, blanking}
-use Rattle.captions.specs.Refusals.{KeyLength, eight, twelve, sixteen, RightKeys, RightWords, OtherMark, IsAltered, check-differs, byte-left, writeClauses, clearClauses, readClauses, blankClauses, Leaves, WriteOf, ClearOf, ReadOf, BlankOf, SheetRefusals}
+use Rattle.captions.specs.Refusals.{RightKeys, RightWords, OtherMark, IsAltered, check-differs, byte-left, writeClauses, clearClauses, readClauses, blankClauses, Leaves, WriteOf, ClearOf, ReadOf, BlankOf, SheetRefusals}
+use Rattle.captions.proofs.Accepted.{zero-read, zero-write, zero-clear, zero-blank}
 use Rattle.captions.specs.declared.Answer.{Answer}
 use Rattle.captions.specs.declared.Answer.the-variants.{Accepted, WrongKey, TwinKeys, WrongSpan, UnfitSheet, OtherKeyClass, NoSuchSlot, Overlong, Worn, Blank, Altered, OtherKeys}
 
 -- ---- the keys
 
-length-right : {n : ℕ} → KeyLength n → sheetKeyLength n ≡ true
+reflects-length : (n : ℕ) → Reflects (sheetKeyLength n) (OneOf (8 ∷ 12 ∷ 16 ∷ []) n)
 unfolding sheetKeyLength
-length-right eight = refl
-length-right twelve = refl
-length-right sixteen = refl
+reflects-length n = reflects-three n 8 12 16
 
-reflects-length : (n : ℕ) → Reflects (sheetKeyLength n) (KeyLength n)
-unfolding sheetKeyLength
-reflects-length n = record { holds = go (eqb n 8) (eqb n 12) (eqb n 16) refl refl refl; fails = λ e h. false≢true (sym e ∙ (unfold sheetKeyLength in length-right h)) }
-  where
-    go : (x y z : Bool) → eqb n 8 ≡ x → eqb n 12 ≡ y → eqb n 16 ≡ z → (x || (y || z)) ≡ true → KeyLength n
-    go true y z p q r h = rw (eqb-true n 8 p) eight
-    go false true z p q r h = rw (eqb-true n 12 q) twelve
-    go false false z p q r h = rw (eqb-true n 16 (r ∙ h)) sixteen
-
+-- the test looks at both lengths, and then whether they are the same
 pub reflects-keys : (k : Keys) → Reflects (wrongKeys k) (RightKeys k → ⊥)
 unfolding wrongKeys
 reflects-keys k =
     reflects-not
-    (reflects-as (λ h. record { sealing = h .0; checking = h .1 .0; alike = h .1 .1 }) (λ r. (r .sealing, (r .checking, r .alike)))
+    (reflects-as (λ h. (h .0, sym (h .1 .1))) (λ r. (r .0, (subst (OneOf (8 ∷ 12 ∷ 16 ∷ [])) (sym (r .1)) (r .0), sym (r .1))))
     (reflects-and (reflects-length (length (k .sealing))) (reflects-and (reflects-length (length (k .checking))) (reflects-eqb (length (k .sealing)) (length (k .checking))))))
 
 -- ---- the sheet and the slot
@@ -195,9 +186,9 @@ reflects-keys-words : (k : Keys) (t : ℕ) → Reflects (wrongKeys k || not (mcr
 reflects-keys-words k t = go (wrongKeys k) (not (mcryptonClass t)) (reflects-keys k) (reflects-not (reflects-words t))
   where
     go : (a b : Bool) → Reflects a (RightKeys k → ⊥) → Reflects b (Words t → ⊥) → Reflects (a || b) (RightWords k t → ⊥)
-    go true b p q = record { holds = λ e r. p .holds refl (r .keys); fails = λ e. absurd (false≢true (sym e)) }
-    go false true p q = record { holds = λ e r. q .holds refl (r .words); fails = λ e. absurd (false≢true (sym e)) }
-    go false false p q = record { holds = λ e. absurd (false≢true e); fails = λ e h. p .fails refl (λ r. q .fails refl (λ w. h (record { keys = r; words = w }))) }
+    go true b p q = record { holds = λ e r. p .holds refl (r .0); fails = λ e. absurd (false≢true (sym e)) }
+    go false true p q = record { holds = λ e r. q .holds refl (r .1); fails = λ e. absurd (false≢true (sym e)) }
+    go false false p q = record { holds = λ e. absurd (false≢true e); fails = λ e h. p .fails refl (λ r. q .fails refl (λ w. h (r, w))) }
 
 blank-means : (k : Keys) (s : List ℕ) (n t : ℕ) → Means answerNumber (blankTests k s n t) (blankClauses k s n t)
 unfolding Means blankTests blankClauses answerNumber classKnown slotCount sheetSize
@@ -209,8 +200,8 @@ blank-means k s n t = (
     refl,
     λ t₂. (
       reflects-not
-          (reflects-as (λ h. record { from-1 = h .0 .0; to-256 = h .0 .1; size = h .1 }) (λ b. ((b .from-1, b .to-256), b .size))
-          (reflects-and (reflects-and (reflects-leb 1 n) (reflects-leb n 256)) (reflects-eqb (length s) (newEdition .header + 208 * n)))),
+          (reflects-as (λ h. (h .0 .0, h .0 .1, h .1)) (λ b. ((b .0, b .1), b .2))
+          (reflects-and (reflects-and (reflects-leb 1 n) (reflects-leb n 256)) (reflects-eqb (length s) (16 + 208 * n)))),
       refl,
       λ t₃. (reflects-not (reflects-eqb (length (k .sealing)) (keyBytes t)), refl, λ t₅. tt),
     ),
@@ -276,11 +267,22 @@ module _ (k : Keys) (s : List ℕ) (n t v : ℕ) where
   blank-refused = decided-refused answerNumber (λ (o : Outcome). o .number) _ _ refl (λ a. refl) (λ o. Leaves o s) (λ a. leaves a s) _
 
   blank-accepted : (blanking k s n t v) .number ≡ 0 → Leaves (blanking k s n t v) (blankSheet n t v (keyMark (loadedFor t k) n t v))
-  unfolding blanking blankingWith blankTests outcome answerNumber answerLength Refuses
-  blank-accepted =
-      decided-zero answerNumber (λ (o : Outcome). o .number) _ _ refl (λ a. refl) (λ o. Leaves o (blankSheet n t v (keyMark (loadedFor t k) n t v)))
-      (record { len = refl; bytes-are = refl }) _
-      (λ e. omega (arith, e), ((λ e. omega (arith, e)), ((λ e. omega (arith, e)), ((λ e. omega (arith, e)), tt))))
+  unfolding blanking outcome answerLength
+  blank-accepted h = let is = zero-blank (loadedFor t k) k s n t v h in record { len = ap (λ (o : Outcome). o .len) is; bytes-are = ap (λ (o : Outcome). o .bytes) is }
+
+-- ---- an accepted call's length
+
+read-length : (k : Keys) (s : List ℕ) (i : ℕ) (window : List ℕ) → (reading k s i window) .number ≡ 0 → (reading k s i window) .len ≡ markLength (mark (editionOf s) s i)
+unfolding reading outcome answerLength
+read-length k s i window h = ap (λ (o : Outcome). o .len) (zero-read (editionOf s) (loadedFor (keyClass s) k) k s i window h)
+
+write-length : (k : Keys) (s : List ℕ) (i : ℕ) (c : List ℕ) → (writing k s i c) .number ≡ 0 → (writing k s i c) .len ≡ 0
+unfolding writing outcome answerLength
+write-length k s i c h = ap (λ (o : Outcome). o .len) (zero-write (editionOf s) (loadedFor (keyClass s) k) k s i c h)
+
+clear-length : (s : List ℕ) (i : ℕ) → (clearing s i) .number ≡ 0 → (clearing s i) .len ≡ 0
+unfolding clearing outcome answerLength
+clear-length s i h = ap (λ (o : Outcome). o .len) (zero-clear (editionOf s) s i h)
 
 -- ---- each number is met: keys of zeros and ones, a sheet of one slot, and the same worn
 
@@ -381,39 +383,6 @@ every-blank =
     (and (record { keys = keys-of 8; sheet = zeros 224; count = 1; words = 6; serial = 1; answers = refl })
     none))))
 
--- ---- the check
-
--- a call that answers 0 met no clause
-past : {P Q : Type 0} (m : ℕ) → 1 ≤ m → (P × (0 ≡ m)) ⊎ ((P → ⊥) × Q) → (P → ⊥) × Q
-past m l (inl h) = absurd (omega (arith, h .1))
-past m l (inr h) = h
-
-accepted-unaltered : (k : Keys) (s : List ℕ) (i : ℕ) (window : List ℕ) → (reading k s i window) .number ≡ 0 → IsAltered (loadedFor (keyClass s) k) (editionOf s) s i → ⊥
-unfolding Answers readClauses
-accepted-unaltered k s i window h =
-    let a₁ = past 1 (lit≤ tt) ((read-exactly k s i window) .answers 0 .0 h) in
-    let a₂ = past 2 (lit≤ tt) (a₁ .1) in
-    let a₃ = past 3 (lit≤ tt) (a₂ .1) in
-    let a₄ = past 4 (lit≤ tt) (a₃ .1) in
-    let a₅ = past 5 (lit≤ tt) (a₄ .1) in
-    let a₁₄ = past 14 (lit≤ tt) (a₅ .1) in
-    let a₆ = past 6 (lit≤ tt) (a₁₄ .1) in
-    let a₉ = past 9 (lit≤ tt) (a₆ .1) in
-    (past 10 (lit≤ tt) (a₉ .1)) .0
-
--- an accepted read found the stored check to be that of the field
-check-found : (k : Keys) (s : List ℕ) (i : ℕ) (window : List ℕ) → (reading k s i window) .number ≡ 0
-    → checkOf (loadedFor (keyClass s) k) (markNumber (mark (editionOf s) s i)) i (markLength (mark (editionOf s) s i)) (field (editionOf s) s i)
-    ≡ markCheck (mark (editionOf s) s i)
-check-found k s i window h = go _ refl
-  where
-    check : List ℕ
-    check = checkOf (loadedFor (keyClass s) k) (markNumber (mark (editionOf s) s i)) i (markLength (mark (editionOf s) s i)) (field (editionOf s) s i)
-
-    go : (b : Bool) → same check (markCheck (mark (editionOf s) s i)) ≡ b → check ≡ markCheck (mark (editionOf s) s i)
-    go true q = same-is _ _ q
-    go false q = absurd (accepted-unaltered k s i window h (check-differs (λ d. false≢true (sym q ∙ same-eq _ _ d))))
-
 pub sheet-refusals : SheetRefusals
 sheet-refusals =
     record {
@@ -426,10 +395,11 @@ sheet-refusals =
       refused-read = read-refused;
       refused-blank = blank-refused;
       accepted-blank = blank-accepted;
+      accepted-read = read-length;
+      accepted-write = write-length;
+      accepted-clear = clear-length;
       writes = every-write;
       clears = every-clear;
       reads = every-read;
       blanks = every-blank;
-      checks = λ k s s′ i window c n l f h g.
-          sym (check-found k s i window h) ∙ rw (c, n, l, f) (check-found k s′ i window g);
     }

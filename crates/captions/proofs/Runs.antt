@@ -1,7 +1,11 @@
 -- Two machines that are fed the same calls: where each call keeps a relation between them, so does every list.
 use mathlib.Core.Path.{_≡_, refl, ap₂}
 use mathlib.Core.List.{List, [], _∷_}
-use Rattle.captions.specs.Runs.{Reply, replies, finally}
+use Rattle.captions.specs.Runs.{Reply, replies, finally, HandedOn}
+
+pub handed-on : {C S : Type 0} (step : C → S → Reply × S) → HandedOn step
+unfolding replies finally
+handed-on step = record { no-reply = λ s. refl; no-call = λ s. refl; reply = λ c cs s. refl; call = λ c cs s. refl }
 
 -- every call of a list is one of those
 pub data Every {C : Type 0} (P : C → Type 0) : List C → Type 0 where

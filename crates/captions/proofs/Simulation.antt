@@ -20,7 +20,7 @@ use Rattle.captions.specs.Calls.{wrongKeys, otherClass, unfitRow, keyTes
 use Rattle.captions.specs.Runs.{Reply, finally}
 use Rattle.captions.specs.Model.{Call, writes, clears, Page, blank, holds, Model, newModel, page, answered, modelStep}
 use Rattle.captions.specs.Turns.{Turn, own, stranger, ownCalls, EachStranger, none as no-stranger, past, met, turnModel}
-use Rattle.captions.specs.Claim.{stepped, stepWith, Captions, none, write, clear, shown, SameHeader, Regular, Sound, Fits, TurnedDown, SheetsFollowModel}
+use Rattle.captions.specs.Claim.{stepped, stepWith, Captions, none, write, clear, AskedOfCalls, shown, SameHeader, Regular, Sound, Fits, TurnedDown, SheetsFollowModel}
 use Rattle.captions.specs.declared.Answer.{Answer}
 use Rattle.captions.specs.declared.Answer.the-variants.{Accepted, WrongKey, TwinKeys, OtherKeyClass, NoSuchSlot, Overlong, Worn, OtherKeys}
 use Rattle.captions.proofs.Runs.{Every, done, more, same-replies, related-finally}
@@ -28,6 +28,9 @@ use Rattle.captions.proofs.Tables.{end, next, unmet-append, past-rows, 
 use Rattle.captions.proofs.Store.{header-refl, header-trans, slots-kept}
 use Rattle.captions.proofs.Fitted.{unused-blank}
 use Rattle.captions.proofs.Effect.{Effect, rules, keys-passed, classes-passed, last-small, blank-read, clear-effect, write-effect}
+
+pub asked-of-calls : AskedOfCalls
+asked-of-calls = record { ask-none = none; ask-write = λ i c calls. write; ask-clear = λ i calls. clear }
 
 -- ---- a sheet and a model
 

@@ -32,6 +32,12 @@ pub data Captions : List Call → Type 0 where
   write : {i : ℕ} {c : List ℕ} {calls : List Call} → Bytes c → Captions calls → Captions (writes i c ∷ calls)
   clear : {i : ℕ} {calls : List Call} → Captions calls → Captions (clears i ∷ calls)
 
+-- and nothing else is asked of a list
+pub record AskedOfCalls : Type 0 where
+  pub ask-none : Captions []
+  pub ask-write : (i : ℕ) (c : List ℕ) (calls : List Call) → Bytes c → Captions calls → Captions (writes i c ∷ calls)
+  pub ask-clear : (i : ℕ) (calls : List Call) → Captions calls → Captions (clears i ∷ calls)
+
 -- what a read of a slot answers and shows, by the page of the model
 unfoldable pub shown : Page → Outcome
 shown blank = outcome Blank (zeros 192)

@@ -6,4 +6,3 @@ pub mod Model
 pub mod Turns
 pub mod Claim
 pub mod Refusals
-pub mod Outside

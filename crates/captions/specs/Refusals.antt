@@ -4,38 +4,27 @@ use mathlib.Core.Path.{_≡_}
 use mathlib.Core.List.{List, [], _∷_}
 use lib.ListN.{length, getD}
 use Rattle.octets.specs.Bytes.{zeros}
-use Rattle.octets.specs.Clauses.{Clause, _when_, Exactly, Each}
+use Rattle.octets.specs.Clauses.{Clause, _when_, Exactly, OneOf, Each}
 use Rattle.cipher.specs.Key.{keyBytes}
-use Rattle.layout.specs.Layout.{Edition, newEdition, editionOf, slots, keyClass, editionByte, lastWrite, storedMark, markNumber, markLength, markCheck, mark, field, blankSheet}
-use Rattle.layout.specs.Rules.{Words, IsBlank, MeetsLayout}
+use Rattle.layout.specs.Layout.{Edition, editionOf, slots, keyClass, editionByte, lastWrite, storedMark, markNumber, markLength, markCheck, mark, field, blankSheet}
+use Rattle.layout.specs.Rules.{IsBlank, MeetsLayout}
 use Rattle.captions.specs.Answers.{Outcome}
 use Rattle.captions.specs.Captions.{Keys, Ciphers, loadedFor, keyMark, markFor, checkOf, opened}
 use Rattle.captions.specs.Calls.{writing, clearing, reading, blanking}
 
 -- ---- what the refusals speak of
 
--- a key of 8, 12 or 16 bytes
-pub data KeyLength : ℕ → Type 0 where
-  eight : KeyLength 8
-  twelve : KeyLength 12
-  sixteen : KeyLength 16
-
--- two keys of the right lengths, which are the same (else 1)
-pub record RightKeys (k : Keys) : Type 0 where
-  pub sealing : KeyLength (length (k .sealing))
-  pub checking : KeyLength (length (k .checking))
-  pub alike : length (k .sealing) ≡ length (k .checking)
-
--- n from 1 to 256 and a buffer of the size of a new sheet of n slots (else 3)
-pub record BlankSpan (s : List ℕ) (n : ℕ) : Type 0 where
-  pub from-1 : 1 ≤ n
-  pub to-256 : n ≤ 256
-  pub size : length s ≡ newEdition .header + 208 * n
+-- two keys of 8, 12 or 16 bytes, both of as many (else 1)
+abbrev pub RightKeys : Keys → Type 0
+RightKeys k = OneOf (8 ∷ 12 ∷ 16 ∷ []) (length (k .sealing)) × (length (k .checking) ≡ length (k .sealing))
 
 -- keys and a t that blanking takes (else 1)
-pub record RightWords (k : Keys) (t : ℕ) : Type 0 where
-  pub keys : RightKeys k
-  pub words : Words t
+abbrev pub RightWords : Keys → ℕ → Type 0
+RightWords k t = RightKeys k × OneOf (4 ∷ 6 ∷ 8 ∷ []) t
+
+-- n from 1 to 256 and a buffer of the size of a new sheet of n slots (else 3)
+abbrev pub BlankSpan : List ℕ → ℕ → Type 0
+BlankSpan s n = (1 ≤ n) × (n ≤ 256) × (length s ≡ 16 + 208 * n)
 
 -- the sheet is of edition 3, and its key mark isn't that of the keys (14)
 pub record OtherMark (x : Ciphers) (s : List ℕ) : Type 0 where
@@ -139,16 +128,12 @@ pub record SheetRefusals : Type 0 where
   pub refused-blank : (k : Keys) (s : List ℕ) (n t v : ℕ) → ((blanking k s n t v) .number ≡ 0 → ⊥) → Leaves (blanking k s n t v) s
   -- an accepted blanking leaves the blank sheet with the key mark; what an accepted write, clear and read leave is demand 2
   pub accepted-blank : (k : Keys) (s : List ℕ) (n t v : ℕ) → (blanking k s n t v) .number ≡ 0 → Leaves (blanking k s n t v) (blankSheet n t v (keyMark (loadedFor t k) n t v))
-  -- each number can be met; the accepted read stands beside this record, and for 10 there is the law at the end
+  -- an accepted read answers the length that the mark stores, and an accepted write and clear answer 0
+  pub accepted-read : (k : Keys) (s : List ℕ) (i : ℕ) (window : List ℕ) → (reading k s i window) .number ≡ 0 → (reading k s i window) .len ≡ markLength (mark (editionOf s) s i)
+  pub accepted-write : (k : Keys) (s : List ℕ) (i : ℕ) (c : List ℕ) → (writing k s i c) .number ≡ 0 → (writing k s i c) .len ≡ 0
+  pub accepted-clear : (s : List ℕ) (i : ℕ) → (clearing s i) .number ≡ 0 → (clearing s i) .len ≡ 0
+  -- each number that rests on no cipher, and 14, is met here; whole calls, an accepted read and those that answer 10 among them, are in crates/exhibits
   pub writes : Each WriteOf (0 ∷ 1 ∷ 2 ∷ 4 ∷ 5 ∷ 14 ∷ 6 ∷ 7 ∷ 8 ∷ [])
   pub clears : Each ClearOf (0 ∷ 4 ∷ 6 ∷ [])
   pub reads : Each ReadOf (1 ∷ 2 ∷ 3 ∷ 4 ∷ 5 ∷ 14 ∷ 6 ∷ 9 ∷ [])
   pub blanks : Each BlankOf (0 ∷ 1 ∷ 2 ∷ 3 ∷ 5 ∷ [])
-  -- two sheets of one class that differ in a slot's stored check alone can't both be accepted
-  pub checks : (k : Keys) (s s′ : List ℕ) (i : ℕ) (window : List ℕ)
-      → keyClass s ≡ keyClass s′
-      → markNumber (mark (editionOf s) s i) ≡ markNumber (mark (editionOf s′) s′ i)
-      → markLength (mark (editionOf s) s i) ≡ markLength (mark (editionOf s′) s′ i)
-      → field (editionOf s) s i ≡ field (editionOf s′) s′ i
-      → (reading k s i window) .number ≡ 0 → (reading k s′ i window) .number ≡ 0
-      → markCheck (mark (editionOf s) s i) ≡ markCheck (mark (editionOf s′) s′ i)

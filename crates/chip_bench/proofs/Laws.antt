@@ -2,27 +2,28 @@
 use Prim.Native.Nat.{ℕ, suc, _%_, _≤_}
 use mathlib.Core.Path.{_≡_, refl, sym, ap, _∙_}
 use mathlib.Core.Bool.{true}
-use mathlib.Core.List.{List}
+use mathlib.Core.List.{List, [], _∷_}
 use native.Mathlib.Numerals.{add-one}
 use lib.ListN.{length}
 use Rattle.octets.specs.Bytes.{Bytes, zeros}
 use Rattle.octets.specs.Outcome.{Outcome, decided}
-use Rattle.octets.specs.Clauses.{Exactly, none, and}
+use Rattle.octets.specs.Clauses.{Exactly, OneOf}
 use Rattle.octets.proofs.Clauses.{reflects-yes, reflects-not, reflects-and, reflects-eqb, reflects-ltb, Means, decided-exactly, decided-refused}
-use Rattle.rounds.specs.Array.{Block, nibbleRound, φ}
+use Rattle.rounds.specs.Word.{rotate1, rotate}
+use Rattle.rounds.specs.Array.{Block, words, sboxes, sbox, γ, π, τ, nibbleRound, φ}
 use Rattle.rounds.specs.declared.Direction.the-variants.{Encrypt}
 use Rattle.rounds.proofs.Inverse.{inverse-round, round-inverse}
-use Rattle.schedule.specs.Schedule.{Key, encryptionKey, register}
+use Rattle.schedule.specs.Schedule.{Key, byCount, forwardWords, forward4, forward6, forward8, forward, backwardWords, backward4, backward6, backward8, backward, start, eightWords, times, register, constants, registerT, lastWord, roundKey, encryptionKey}
 use Rattle.mcrypton.specs.Bytes.{keyLength, wordsOf, bytesOf, encryptBytes}
-use Rattle.mcrypton.specs.Cipher.{after, steps, encryptBlock}
-use Rattle.mcrypton.specs.Refusals.{KeyLength, Leaves}
+use Rattle.mcrypton.specs.Cipher.{afterBy, after, steps, encryptBlock}
+use Rattle.mcrypton.specs.Refusals.{Leaves}
 use Rattle.mcrypton.proofs.Paths.{any-path}
 use Rattle.mcrypton.proofs.WordsOf.{words-bytes, bytes-words}
 use Rattle.mcrypton.proofs.ByteBlocks.{key-words, block-words, length-bytes, bytes-bytes}
 use Rattle.mcrypton.proofs.Refusals.{reflects-length}
 use Rattle.chip_bench.specs.Bench.{takenBack, leadingBlock}
 use Rattle.chip_bench.specs.Calls.{benchNumber, benchOutcome, benchTests, benching}
-use Rattle.chip_bench.specs.Laws.{arrayAfter, Arrays, OneBlock, benchClauses, Bench}
+use Rattle.chip_bench.specs.Laws.{arrayAfter, Arrays, OneBlock, benchClauses, BenchCalls, Bench}
 use Rattle.chip_bench.specs.declared.BenchAnswer.the-variants.{Accepted}
 use Rattle.chip_bench.proofs.Calls.{accepts}
 use Rattle.chip_bench.proofs.Leads.{block-back, leads, only}
@@ -30,17 +31,17 @@ use Rattle.chip_bench.proofs.Leads.{block-back, leads, only}
 -- ---- which array is after which round
 
 arrays-are : (p : ℕ) (k b : List ℕ) → Arrays p k b
-unfolding after encryptBytes encryptBlock steps
+unfolding afterBy encryptBytes encryptBlock steps
 arrays-are p k b =
     record {
       first = refl;
-      next = λ r. rw add-one (ap bytesOf (any-path Encrypt p (suc r) _ _ ∙ ap (nibbleRound Encrypt (encryptionKey (wordsOf k) (suc r))) (sym (words-bytes _))));
+      next = λ r. rw add-one (ap bytesOf (any-path Encrypt p (suc r) (encryptionKey (wordsOf k) (suc r)) (after Encrypt p (encryptionKey (wordsOf k)) (wordsOf b) r) ∙ ap (nibbleRound Encrypt (encryptionKey (wordsOf k) (suc r))) (sym (words-bytes _))));
       last = ap (λ (a : List ℕ). bytesOf (φ a)) (sym (words-bytes _));
     }
 
 -- ---- the one block
 
-module _ (k : List ℕ) (r : ℕ) (wanted out : List ℕ) (tk : Bytes k) (hk : KeyLength (length k)) (l : r ≤ 12) (tw : Bytes wanted)
+module _ (k : List ℕ) (r : ℕ) (wanted out : List ℕ) (tk : Bytes k) (hk : OneOf (8 ∷ 12 ∷ 16 ∷ []) (length k)) (l : r ≤ 12) (tw : Bytes wanted)
     (hw : length wanted ≡ 8) (ho : length out ≡ 8) where
   right : keyLength (length k) ≡ true
   right = reflects-yes (reflects-length (length k)) hk
@@ -109,8 +110,12 @@ module _ (k : List ℕ) (r : ℕ) (wanted out : List ℕ) where
   unfolding benching benchOutcome
   call-refused = decided-refused benchNumber (λ (o : Outcome). o .number) _ _ refl (λ a. refl) (λ o. Leaves o out) (λ a h. record { len = refl; bytes-are = refl }) _
 
+-- by computing
+bench-calls : BenchCalls
+unfolding rotate1 rotate sboxes sbox γ π τ byCount forwardWords forward4 forward6 forward8 forward backwardWords backward4 backward6 backward8 backward start eightWords times register constants registerT lastWord roundKey wordsOf bytesOf takenBack leadingBlock benching benchTests benchOutcome decided keyLength zeros
+bench-calls = record { round-0 = refl; round-5 = refl; round-12 = refl; wrong-key = refl; wrong-array = refl; wrong-output = refl; no-round = refl }
+
 pub bench : Bench
-unfolding benching benchTests benchOutcome decided keyLength zeros
 bench =
     record {
       leads = one-block;
@@ -119,10 +124,6 @@ bench =
       round-inverse = λ d key a. round-inverse d;
       exactly = call-exactly;
       refused = call-refused;
-      each =
-          and (record { key = zeros 8; round = 12; wanted = zeros 8; output = zeros 8; answers = refl })
-          (and (record { key = zeros 9; round = 13; wanted = zeros 7; output = zeros 8; answers = refl })
-          (and (record { key = zeros 8; round = 13; wanted = zeros 8; output = zeros 7; answers = refl })
-          (and (record { key = zeros 8; round = 13; wanted = zeros 8; output = zeros 8; answers = refl })
-          none)));
+      calls = bench-calls;
+      block = λ a b c d. words;
     }

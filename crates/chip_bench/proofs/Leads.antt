@@ -9,7 +9,7 @@ use Rattle.rounds.proofs.Inverse.{inverse-round, round-inverse}
 use Rattle.schedule.specs.Schedule.{Key, register, roundKey, encryptionKey}
 use Rattle.schedule.specs.declared.Register.{Register}
 use Rattle.schedule.proofs.Registers.{back-one, block-encryption-key}
-use Rattle.mcrypton.specs.Cipher.{after}
+use Rattle.mcrypton.specs.Cipher.{afterBy, after}
 use Rattle.mcrypton.proofs.Paths.{any-path}
 use Rattle.chip_bench.specs.Bench.{takenBack}
 
@@ -27,7 +27,7 @@ module _ (k : List ℕ) (h : Key k) where
 
   module _ (p : ℕ) where
     block-after : (b : List ℕ) → Block b → (r : ℕ) → Block (after Encrypt p (encryptionKey k) b r)
-    unfolding after
+    unfolding afterBy
     block-after b g zero = block-σ (block-encryption-key k h 0) g
     block-after b g (suc r) =
         subst Block (sym (any-path Encrypt p (suc r) (encryptionKey k (suc r)) (after Encrypt p (encryptionKey k) b r)))
@@ -35,7 +35,7 @@ module _ (k : List ℕ) (h : Key k) where
 
     -- it leads there
     pub leads : (r : ℕ) (a : List ℕ) → Block a → after Encrypt p (encryptionKey k) (takenBack r (register k r) a) r ≡ a
-    unfolding after takenBack encryptionKey
+    unfolding afterBy takenBack encryptionKey
     leads zero a g = σ-σ (block-encryption-key k h 0) g
     leads (suc r) a g =
         ap (λ (b : List ℕ). after Encrypt p (encryptionKey k) b (suc r)) (step-back r a)
@@ -45,7 +45,7 @@ module _ (k : List ℕ) (h : Key k) where
 
     -- and no other block does
     pub only : (r : ℕ) (b : List ℕ) → Block b → takenBack r (register k r) (after Encrypt p (encryptionKey k) b r) ≡ b
-    unfolding after takenBack encryptionKey
+    unfolding afterBy takenBack encryptionKey
     only zero b g = σ-σ (block-encryption-key k h 0) g
     only (suc r) b g =
         step-back r (after Encrypt p (encryptionKey k) b (suc r))

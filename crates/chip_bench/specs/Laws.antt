@@ -4,16 +4,17 @@ use Prim.Native.Nat.{ℕ, _+_, _≤_, _<_}
 use mathlib.Core.Path.{_≡_}
 use mathlib.Core.List.{List, [], _∷_}
 use mathlib.Core.Logic.{_↔_}
-use lib.ListN.{length}
-use Rattle.octets.specs.Bytes.{Bytes}
-use Rattle.octets.specs.Clauses.{Clause, _when_, Exactly, Each}
+use lib.ListN.{length, replicate}
+use Rattle.octets.specs.Bytes.{Bytes, zeros}
+use Rattle.octets.specs.Clauses.{Clause, _when_, Exactly, OneOf}
 use Rattle.rounds.specs.Array.{Block, σ, φ, nibbleRound, inverseRound}
 use Rattle.rounds.specs.declared.Direction.{Direction}
 use Rattle.rounds.specs.declared.Direction.the-variants.{Encrypt}
 use Rattle.schedule.specs.Schedule.{encryptionKey}
 use Rattle.mcrypton.specs.Bytes.{wordsOf, bytesOf, encryptBytes}
 use Rattle.mcrypton.specs.Cipher.{after}
-use Rattle.mcrypton.specs.Refusals.{KeyLength, Leaves}
+use Rattle.mcrypton.specs.Vectors.{key4, key6, key8, block}
+use Rattle.mcrypton.specs.Refusals.{Leaves}
 use Rattle.chip_bench.specs.Calls.{benching}
 
 -- ---- the one block
@@ -45,23 +46,27 @@ pub record OneBlock (k : List ℕ) (r : ℕ) (wanted out : List ℕ) : Type 0 wh
 
 unfoldable pub benchClauses : List ℕ → ℕ → List ℕ → List ℕ → List Clause
 benchClauses k r wanted out =
-    (1 when (KeyLength (length k) → ⊥))
+    (1 when (OneOf (8 ∷ 12 ∷ 16 ∷ []) (length k) → ⊥))
     ∷ (3 when ((length wanted ≡ 8) × (length out ≡ 8) → ⊥))
     ∷ (13 when (12 < r))
     ∷ []
 
--- a call that answers n
-pub record BenchOf (n : ℕ) : Type 0 where
-  pub key : List ℕ
-  pub round : ℕ
-  pub wanted : List ℕ
-  pub output : List ℕ
-  pub answers : (benching key round wanted output) .number ≡ n
+-- calls whole, in plain values: number, length and the output after it; the second program made the blocks
+pub record BenchCalls : Type 0 where
+  -- accepted, with a key of each size: after the first key addition, after a round, and before φ
+  pub round-0 : benching key4 0 block (zeros 8) ≡ record { number = 0; len = 0; bytes = 0x10 ∷ 0x58 ∷ 0xf7 ∷ 0x38 ∷ 0x60 ∷ 0xe8 ∷ 0x48 ∷ 0x56 ∷ [] }
+  pub round-5 : benching key6 5 block (zeros 8) ≡ record { number = 0; len = 0; bytes = 0x9e ∷ 0x85 ∷ 0x0f ∷ 0xbb ∷ 0xfb ∷ 0x6f ∷ 0xb8 ∷ 0x24 ∷ [] }
+  pub round-12 : benching key8 12 block (zeros 8) ≡ record { number = 0; len = 0; bytes = 0x7e ∷ 0xa8 ∷ 0x27 ∷ 0x21 ∷ 0xad ∷ 0x09 ∷ 0x4e ∷ 0x2f ∷ [] }
+  -- refused, for a key of 9 bytes, for an array of 7, for an output of 7, and for round 13; each also meets those after it
+  pub wrong-key : benching (zeros 9) 13 (zeros 7) (replicate 7 5) ≡ record { number = 1; len = 0; bytes = replicate 7 5 }
+  pub wrong-array : benching key4 13 (zeros 7) (replicate 8 5) ≡ record { number = 3; len = 0; bytes = replicate 8 5 }
+  pub wrong-output : benching key4 13 block (replicate 7 5) ≡ record { number = 3; len = 0; bytes = replicate 7 5 }
+  pub no-round : benching key4 13 block (replicate 8 5) ≡ record { number = 13; len = 0; bytes = replicate 8 5 }
 
 -- ---- the statement
 
 pub record Bench : Type 0 where
-  pub leads : (k : List ℕ) (r : ℕ) (wanted out : List ℕ) → Bytes k → KeyLength (length k) → r ≤ 12
+  pub leads : (k : List ℕ) (r : ℕ) (wanted out : List ℕ) → Bytes k → OneOf (8 ∷ 12 ∷ 16 ∷ []) (length k) → r ≤ 12
       → Bytes wanted → length wanted ≡ 8 → length out ≡ 8 → OneBlock k r wanted out
   pub arrays : (p : ℕ) (k b : List ℕ) → Arrays p k b
   -- a round and the round taken back undo each other, in either direction
@@ -72,4 +77,6 @@ pub record Bench : Type 0 where
   -- a refusal leaves the output as it was
   pub refused : (k : List ℕ) (r : ℕ) (wanted out : List ℕ) → ((benching k r wanted out) .number ≡ 0 → ⊥) → Leaves (benching k r wanted out) out
   -- each number can be met
-  pub each : Each BenchOf (0 ∷ 1 ∷ 3 ∷ 13 ∷ [])
+  pub calls : BenchCalls
+  -- what is asked of an array, where it is held as four words: they are words of 16 bits
+  pub block : (a b c d : ℕ) → a < 65536 → b < 65536 → c < 65536 → d < 65536 → Block (a ∷ b ∷ c ∷ d ∷ [])

@@ -26,7 +26,8 @@ use Rattle.dated.specs.declared.DatedAnswer.the-variants.{Read, UnfitTer
 use Rattle.dated.specs.Calls.{DatedOutcome, datedNumber, datedLength, datedPoint, ofTerms, datedOutcome, undated, datedTests, datingWith, dating}
 use Rattle.dated.specs.Laws.{datedClauses, DatedOf, TermsMet, alwaysOpen, DatedReads}
 use Rattle.dated.proofs.Beside.{beside}
-use Rattle.dated.proofs.Open.{opened}
+use Rattle.dated.proofs.Open.{in-term, one-day, opened}
+use Rattle.dated.proofs.Spelled.{refusals}
 
 -- ---- the table means the clauses
 
@@ -145,4 +146,4 @@ never : (n : ℕ) (t : List ℕ) (i day : ℕ) → closing n t i < opening t i �
 never n t i day l o = omega (arith, o .from, o .to)
 
 pub dated-reads : DatedReads
-dated-reads = record { read = dated-exactly; refused = dated-refused; beside = beside; never = never; opened = opened; reads = every-read; terms-met = terms-met }
+dated-reads = record { read = dated-exactly; refused = dated-refused; beside = beside; refusals = refusals; never = never; in-term = in-term; one-day = one-day; opened = opened; reads = every-read; terms-met = terms-met }

@@ -1,4 +1,5 @@
 pub mod Read
 pub mod Beside
 pub mod Open
+pub mod Spelled
 pub mod Laws

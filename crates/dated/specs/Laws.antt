@@ -74,6 +74,13 @@ module _ (k : Keys) (s t : List ℕ) (i day : ℕ) (window : List ℕ) where
         → ((dating k s t i day window) .outcome .number ≡ 12 → ⊥)
         → (dating k s t i day window) .outcome ≡ reading k s i window
 
+  -- what the three records come to: they ask for no more, and say no less
+  pub record RefusalsAre : Type 0 where
+    pub for-terms : TermsRefuse ↔ ((MeetsTerms (slots s) t → ⊥) × ((undatedNumber ≡ 0) ⊎ (4 < undatedNumber)))
+    pub for-date : DateRefuses ↔ (MeetsTerms (slots s) t × (36524 < day) × ((undatedNumber ≡ 0) ⊎ (5 < undatedNumber)))
+    pub for-show : ShowRefuses
+        ↔ (MeetsTerms (slots s) t × (day ≤ 36524) × ((day < opening t i) ⊎ (closing (slots s) t i < day)) × ((undatedNumber ≡ 0) ⊎ (undatedNumber ≡ 10)))
+
 -- ---- calls that answer n
 
 pub record DatedOf (n : ℕ) : Type 0 where
@@ -109,8 +116,14 @@ pub record DatedReads : Type 0 where
       → Leaves ((dating k s t i day window) .outcome) (zeros (length window))
   -- a dated outcome is the undated one or one of three refusals, and which is said exactly
   pub beside : (k : Keys) (s t : List ℕ) (i day : ℕ) (window : List ℕ) → BesideUndated k s t i day window
+  pub refusals : (k : Keys) (s t : List ℕ) (i day : ℕ) (window : List ℕ) → RefusalsAre k s t i day window
   -- no day lies in a term whose opening is above its closing
   pub never : (n : ℕ) (t : List ℕ) (i day : ℕ) → closing n t i < opening t i → OnShow n t i day → ⊥
+  -- a read on a day from the slot's opening to its closing, a term of one day among them, is the undated read, accepted or altered
+  pub in-term : (k : Keys) (s t : List ℕ) (i day : ℕ) (window : List ℕ) → MeetsTerms (slots s) t → day ≤ 36524 → opening t i ≤ day → day ≤ closing (slots s) t i
+      → (dating k s t i day window) .outcome ≡ reading k s i window
+  pub one-day : (k : Keys) (s t : List ℕ) (i day : ℕ) (window : List ℕ) → MeetsTerms (slots s) t → day ≤ 36524 → opening t i ≡ day → closing (slots s) t i ≡ day
+      → (dating k s t i day window) .outcome ≡ reading k s i window
   -- by terms that are always open a read on any day is the undated read, accepted or altered
   pub opened : (k : Keys) (s : List ℕ) (i day : ℕ) (window : List ℕ) → MeetsLayout s → i < slots s → day ≤ 36524
       → (dating k s (alwaysOpen (slots s)) i day window) .outcome ≡ reading k s i window

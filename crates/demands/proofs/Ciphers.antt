@@ -98,6 +98,7 @@ classes-by-mcrypton =
       class-8 = by-mcrypton 8;
       no-other = λ s h. class-cases Count four six eight (keyClass s) (fit-class s h);
       vectors = block-vectors;
+      invertible = λ class p q k c. unfold byPaths in (promise c) .by-paths p q;
     }
 
 pub code-writes : CodeWrites

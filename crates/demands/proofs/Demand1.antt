@@ -1,66 +1,86 @@
 -- Demand 1 holds.
-use Prim.Native.Nat.{ℕ}
-use mathlib.Core.Path.{_≡_, refl, sym, ap, _∙_}
+use Prim.Native.Nat.{ℕ, _≤_, _<_}
+use mathlib.Core.Path.{_≡_, refl, ap}
 use mathlib.Core.List.{List, [], _∷_}
+use mathlib.Core.Logic.{inl, inr}
 use native.Mathlib.Omega.{arith}
-use Rattle.octets.specs.Bytes.{none, be, number, zeros}
-use Rattle.octets.proofs.Zeros.{length-zeros}
+use Rattle.octets.specs.Clauses.{Clause, _when_, Answers, Exactly}
+use Rattle.mcrypton.specs.Refusals.{blockClauses}
 use Rattle.mcrypton.proofs.Refusals.{block-refusals}
+use Rattle.modes.specs.Refusals.{macClauses}
 use Rattle.modes.proofs.Refusals.{mac-refusals}
-use Rattle.layout.specs.Layout.{slots, firstEight, serialHeader, blankHeader, blankSlots, blankSheet}
+use Rattle.chip_bench.specs.Laws.{benchClauses}
+use Rattle.chip_bench.proofs.Laws.{bench}
+use Rattle.calendar.specs.Calendar.{DayOutcome, DateOutcome, dayOfDate, dateOfDay}
+use Rattle.calendar.proofs.Laws.{calendar-laws}
+use Rattle.cipher.specs.Key.{keyBytes}
 use Rattle.layout.proofs.Places.{places}
-use Rattle.captions.specs.Answers.{Outcome, answerNumber, outcome}
-use Rattle.captions.specs.Captions.{Keys}
-use Rattle.captions.specs.Refusals.{ReadOf}
-use Rattle.captions.specs.Runs.{finally}
-use Rattle.captions.specs.Model.{Call, writes, newModel, page, modelStep}
-use Rattle.captions.specs.Claim as Claim
+use Rattle.captions.specs.Refusals.{writeClauses, clearClauses, readClauses, blankClauses}
 use Rattle.captions.proofs.Refusals.{sheet-refusals}
-use Rattle.demands.specs.Demand1.{Demand1}
-use Rattle.demands.specs.Demand3.{ByBlanking, firstPair, strangersSheet, sheetStep, NoStrangers}
-use Rattle.demands.proofs.Demand3.{demand3}
+use Rattle.dated.specs.Laws.{datedClauses}
+use Rattle.dated.proofs.Laws.{dated-reads}
+use Rattle.exhibits.proofs.Exhibits.{exhibits}
+use Rattle.demands.specs.Demand1.{NoneApplies, Decides, Demand1}
 
--- ---- an accepted read: of an empty caption, written to the sheet that blanking makes for the strangers
+-- ---- where no clause gives 0, a call answers 0 exactly if none applies
 
-sheet : List ℕ
-sheet = strangersSheet
+unfoldable NoZero : List Clause → Type 0
+NoZero [] = Unit {0}
+NoZero ((n when P) ∷ clauses) = (0 ≡ n → ⊥) × NoZero clauses
 
-keys : Keys
-keys = firstPair
+none-applies : (clauses : List Clause) → NoZero clauses → Answers clauses 0 → NoneApplies clauses
+unfolding NoZero Answers NoneApplies
+none-applies [] z a = tt
+none-applies ((n when P) ∷ clauses) z (inl h) = absurd (z .0 (h .1))
+none-applies ((n when P) ∷ clauses) z (inr h) = (h .0, none-applies clauses (z .1) (h .1))
 
-made : ByBlanking keys sheet
-unfolding sheet keys
-made = demand3 .strangers .sheet
+answers-zero : (clauses : List Clause) → NoneApplies clauses → Answers clauses 0
+unfolding Answers NoneApplies
+answers-zero [] n = refl
+answers-zero ((m when P) ∷ clauses) n = inr (n .0, answers-zero clauses (n .1))
 
-two-slots : slots sheet ≡ 2
-unfolding sheet slots number zeros be firstEight serialHeader blankHeader blankSlots blankSheet
-two-slots = refl
-
-calls : List Call
-calls = writes 0 [] ∷ []
-
-half : NoStrangers 0 0 0 keys sheet calls
-unfolding calls
-half = demand3 .no-strangers 0 0 0 keys sheet calls (made .serves) (made .blank) (Claim.write none Claim.none)
-
--- the model's page holds the empty caption
-shown-number : (Claim.shown (page (finally modelStep calls (newModel (slots sheet))) 0)) .number ≡ 0
-unfolding calls finally modelStep newModel page Claim.shown outcome answerNumber
-shown-number = rw two-slots
-
-accepted-read : ReadOf 0
-accepted-read =
+decides : {number : ℕ} {clauses : List Clause} {Left : Type 0} → NoZero clauses → Exactly number clauses → ((number ≡ 0 → ⊥) → Left) → Decides number clauses Left
+decides {clauses = clauses} z e r =
     record {
-      keys = keys;
-      sheet = finally (sheetStep 0 keys) calls sheet;
-      slot = 0;
-      window = zeros 192;
-      answers =
-          ap (λ (o : Outcome). o .number)
-          (sym (demand3 .code-read 0 0 keys (finally (sheetStep 0 keys) calls sheet) 0 (zeros 192))
-          ∙ half .reads 0 (zeros 192) (omega (arith, two-slots)) (length-zeros 192))
-          ∙ shown-number;
+      first-that-applies = e .answers;
+      accepted-exactly-if-none-applies = (λ h. none-applies clauses z (e .answers 0 .0 h), λ n. e .answers 0 .1 (answers-zero clauses n));
+      refused = r;
     }
 
+-- ---- the conversions
+
+late : (n : ℕ) → (n ≤ 36524 → ⊥) → 36524 < n
+late n h = omega arith
+
+no-day : (y m d : ℕ) → ((dayOfDate y m d) .number ≡ 0 → ⊥) → (dayOfDate y m d) .day ≡ 0
+no-day y m d h = ap (λ (o : DayOutcome). o .day) (calendar-laws .date-refused y m d (λ is. h (calendar-laws .date-accepted y m d .1 is)))
+
+no-date : (n : ℕ) → ((dateOfDay n) .number ≡ 0 → ⊥) → ((dateOfDay n) .year ≡ 0) × ((dateOfDay n) .month ≡ 0) × ((dateOfDay n) .day ≡ 0)
+no-date n h =
+    let e = calendar-laws .day-refused n (late n (λ l. h (calendar-laws .day-accepted n .1 l))) in
+    (ap (λ (o : DateOutcome). o .year) e, ap (λ (o : DateOutcome). o .month) e, ap (λ (o : DateOutcome). o .day) e)
+
+-- ---- the whole
+
 pub demand1 : Demand1
-demand1 = record { blocks = block-refusals; cmac = mac-refusals; sheets = sheet-refusals; places = places; accepted-read = accepted-read }
+unfolding NoZero blockClauses macClauses benchClauses writeClauses clearClauses readClauses blankClauses datedClauses keyBytes
+demand1 =
+    record {
+      encrypt-block = λ p k b out. decides ((λ e. omega (arith, e)), ((λ e. omega (arith, e)), tt)) (block-refusals .encrypt .exactly p k b out) (block-refusals .encrypt .refused p k b out);
+      decrypt-block = λ p k b out. decides ((λ e. omega (arith, e)), ((λ e. omega (arith, e)), tt)) (block-refusals .decrypt .exactly p k b out) (block-refusals .decrypt .refused p k b out);
+      cmac = λ k m out. decides ((λ e. omega (arith, e)), ((λ e. omega (arith, e)), tt)) (mac-refusals .exactly k m out) (mac-refusals .refused k m out);
+      bench-block = λ k r wanted out. decides ((λ e. omega (arith, e)), ((λ e. omega (arith, e)), ((λ e. omega (arith, e)), tt))) (bench .exactly k r wanted out) (bench .refused k r wanted out);
+      blank-sheet = λ k s n t v. decides ((λ e. omega (arith, e)), ((λ e. omega (arith, e)), ((λ e. omega (arith, e)), ((λ e. omega (arith, e)), tt)))) (sheet-refusals .blank k s n t v) (sheet-refusals .refused-blank k s n t v);
+      write = λ k s i c. decides ((λ e. omega (arith, e)), ((λ e. omega (arith, e)), ((λ e. omega (arith, e)), ((λ e. omega (arith, e)), ((λ e. omega (arith, e)), ((λ e. omega (arith, e)), ((λ e. omega (arith, e)), ((λ e. omega (arith, e)), tt)))))))) (sheet-refusals .write k s i c) (sheet-refusals .refused-write k s i c);
+      clear = λ s i. decides ((λ e. omega (arith, e)), ((λ e. omega (arith, e)), tt)) (sheet-refusals .clear s i) (sheet-refusals .refused-clear s i);
+      read = λ k s i window. decides ((λ e. omega (arith, e)), ((λ e. omega (arith, e)), ((λ e. omega (arith, e)), ((λ e. omega (arith, e)), ((λ e. omega (arith, e)), ((λ e. omega (arith, e)), ((λ e. omega (arith, e)), ((λ e. omega (arith, e)), ((λ e. omega (arith, e)), tt))))))))) (sheet-refusals .read k s i window) (sheet-refusals .refused-read k s i window);
+      dated-read = λ k s t i day window. decides ((λ e. omega (arith, e)), ((λ e. omega (arith, e)), ((λ e. omega (arith, e)), ((λ e. omega (arith, e)), ((λ e. omega (arith, e)), ((λ e. omega (arith, e)), ((λ e. omega (arith, e)), ((λ e. omega (arith, e)), ((λ e. omega (arith, e)), ((λ e. omega (arith, e)), ((λ e. omega (arith, e)), ((λ e. omega (arith, e)), tt)))))))))))) (dated-reads .read k s t i day window) (dated-reads .refused k s t i day window);
+      day-of-date = λ y m d. decides ((λ e. omega (arith, e)), tt) (calendar-laws .date-exactly y m d) (no-day y m d);
+      date-of-day = λ n. decides ((λ e. omega (arith, e)), tt) (calendar-laws .day-exactly n) (no-date n);
+      places = places;
+      block-calls = block-refusals .calls;
+      mac-calls = mac-refusals .calls;
+      bench-calls = bench .calls;
+      sheet-calls = exhibits;
+      sheets = sheet-refusals;
+    }

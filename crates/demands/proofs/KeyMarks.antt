@@ -16,16 +16,20 @@ use Rattle.layout.specs.Layout.{editionOf, keyClass, editionByte, storedMark, f
 use Rattle.layout.specs.Rules.{MeetsLayout}
 use Rattle.layout.proofs.Header.{edition-cases, edition-three}
 use Rattle.layout.proofs.Meaning.{reflects-fit}
-use Rattle.captions.specs.Answers.{Outcome, answerNumber, outcome}
+use Rattle.captions.specs.Answers.{Outcome, answerNumber, answerLength, outcome}
 use Rattle.captions.specs.Captions.{Keys, Ciphers, markFor, otherKeys}
 use Rattle.captions.specs.Calls.{wrongKeys, otherClass, keyTests, classTests, pairTests, captionTests, sheetTests, windowTests, openTests, writeTests, readTests, writingWith, readingWith}
 use Rattle.captions.specs.declared.Answer.the-variants.{OtherKeys}
+use Rattle.captions.specs.Runs.{Reply}
+use Rattle.captions.specs.Model.{answered}
+use Rattle.captions.specs.Claim.{stepped}
 use Rattle.captions.specs.Refusals.{OtherMark, writeClauses, readClauses}
 use Rattle.captions.proofs.Refusals.{reflects-keys, reflects-class, reflects-mark, sheet-refusals}
 use Rattle.demands.specs.Ciphers.{byPaths, writingBy, readingBy}
-use Rattle.demands.specs.Demand3.{keyRefusal}
+use Rattle.demands.specs.Steps.{Gives, keyRefusal}
 use Rattle.demands.specs.KeyMarks.{OtherPair, pairClauses, KeyMarks}
 use Rattle.demands.proofs.Ciphers.{classes-by-mcrypton, code-writes, code-reads}
+use Rattle.demands.proofs.Gives.{gives}
 use Rattle.demands.proofs.Strangers.{stranger-write, stranger-read}
 
 meets : (s : List ℕ) → MeetsLayout s → fit s ≡ true
@@ -123,13 +127,20 @@ old-read p q k s i window n h =
     let a₁₀ = past 10 (λ e. omega (arith, e)) (past 9 (λ e. omega (arith, e)) (past 6 (λ e. omega (arith, e)) (past-mark n (past 5 (λ e. omega (arith, e)) a₄)))) in
     omega (arith, a₁₀)
 
+-- a step in plain values
+stepped-gives : {o : Outcome} {n : ℕ} {bytes : List ℕ} → stepped o ≡ (answered n, bytes) → Gives o n 0 bytes
+unfolding answered
+stepped-gives e = record { number-is = ap (λ (p : Reply × List ℕ). p .0 .number) e; len-is = ap (λ (p : Reply × List ℕ). p .0 .len) e; bytes-are = ap (λ (p : Reply × List ℕ). p .1) e }
+
 pub key-marks : KeyMarks
+unfolding answerNumber answerLength
 key-marks =
     record {
-      write = λ p k s i c o. other-write p k s o i c;
-      read = λ p q k s i window o l. other-read p k s o q i window l;
-      stranger = λ p k s i c m h. stranger-write p k s i c (meets s m) h;
-      stranger-read = λ p q k s i window m h l. stranger-read p q k s i window (meets s m) h l;
+      write = λ p k s i c o. gives OtherKeys s (other-write p k s o i c);
+      read = λ p q k s i window o l. gives OtherKeys (zeros 192) (other-read p k s o q i window l);
+      stranger = λ p k s i c m h. stepped-gives (stranger-write p k s i c (meets s m) h);
+      stranger-read = λ p q k s i window m h l. stepped-gives (stranger-read p q k s i window (meets s m) h l);
+      ask = λ p k s f e r u c m. record { fits = f; edition = e; right = r; unlike = u; class = c; mark = m };
       numbers = numbers;
       old-stranger = old-stranger;
       old-write = old-write;

@@ -1,10 +1,14 @@
+pub mod Gives
 pub mod Ciphers
-pub mod Demand2
-pub mod Demand3
+pub mod Served
+pub mod Turns
 pub mod Blanking
+pub mod Demand2
 pub mod Premises
 pub mod Strangers
-pub mod Meeting
+pub mod Witnesses
+pub mod Demand3
+pub mod NoStrangers
 pub mod Demand1
 pub mod Serials
 pub mod KeyMarks

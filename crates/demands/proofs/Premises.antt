@@ -1,23 +1,26 @@
 -- The premises of demand 3 can be met, and say what they seem to say.
 use Prim.Native.Nat.{ℕ, zero, suc, _+_, _*_, _<_}
 use mathlib.Core.Path.{_≡_, refl, sym, ap, _∙_, subst}
-use mathlib.Core.Bool.{true, false, not, _&&_, _||_, false≢true}
-use mathlib.Core.List.{List}
+use mathlib.Core.Bool.{Bool, true, false, not, _&&_, _||_, false≢true}
+use mathlib.Core.List.{List, [], _∷_}
+use mathlib.Core.Logic.{inl, inr}
 use native.Mathlib.Omega.{arith}
 use lib.Dec.{lit<}
 use lib.ListN.{length, replicate, length-replicate}
 use borrow.Author.Tests.{eq-eqb, not-false}
 use Rattle.octets.specs.Bytes.{Bytes, none, more, zeros, same}
+use Rattle.octets.specs.Clauses.{OneOf}
+use Rattle.captions.specs.Model.{Page, blank, holds}
 use Rattle.octets.proofs.Bool.{not-both, and-left, and-both}
 use Rattle.octets.proofs.Compare.{same-self, same-is, same-eq, same-differ}
 use Rattle.octets.proofs.EveryByte.{part-bytes}
 use Rattle.octets.proofs.Zeros.{length-zeros, zeros-bytes}
 use Rattle.cipher.specs.Key.{mcryptonClass, classKnown, keyBytes, sheetKeyLength}
 use Rattle.cipher.proofs.Promise.{class-cases}
-use Rattle.layout.specs.Layout.{Edition, edition1, edition2, edition3, editionOf, slots, keyClass, serial, storedMark, slotCount, sheetSize, blankSlot, fitIn, fit, blankSheet1, blankSheet2, blankSheet}
+use Rattle.layout.specs.Layout.{Edition, edition1, edition2, edition3, editionOf, slots, keyClass, serial, storedMark, slotCount, sheetSize, blankSlot, fitIn, fit, firstEight, serialHeader, blankSlots, blankSheet1, blankSheet2, blankSheet}
 use Rattle.layout.proofs.Header.{count-within, edition-cases, edition-one, edition-two, edition-three}
 use Rattle.layout.proofs.Fits.{Rules, fit-rules}
-use Rattle.captions.specs.Answers.{outcome, firstOf}
+use Rattle.captions.specs.Answers.{answerNumber, answerLength, outcome, firstOf}
 use Rattle.captions.specs.Captions.{Keys, loadedFor, keyMark, markFor, otherKeys}
 use Rattle.captions.specs.Calls.{wrongKeys, keyTests, otherClass, classTests, pairTests, blankTests, blankingWith, blanking}
 use Rattle.captions.specs.Claim.{Sound}
@@ -30,7 +33,12 @@ use Rattle.captions.proofs.Editions.{fit-class}
 use Rattle.captions.proofs.Effect.{keys-passed, classes-passed, class-passed}
 use Rattle.captions.proofs.BlankSheets.{Made, byte-one, made-1, blanked-1, serial-below, byte-two, made-2, blanked-2, byte-three, serial-3, mark-3, made-3, length-mark-3, blanked-3}
 use Rattle.demands.specs.Ciphers.{byPaths}
-use Rattle.demands.specs.Demand3.{Serves, BlankSheet, Blanked, one, two, three, UnlikeKeys, ByBlanking, Premises}
+use Rattle.captions.specs.Turns.{none as no-stranger, past, met}
+use Rattle.captions.proofs.Simulation.{asked-of-calls}
+use Rattle.mcrypton.proofs.FirstHalf.{first-asks}
+use Rattle.demands.specs.Steps.{Gives, Serves, BlankSheet}
+use Rattle.demands.specs.Premises.{Blanked, one, two, three, UnlikeKeys, ByBlanking, Premises}
+use Rattle.demands.proofs.Gives.{gives}
 use Rattle.demands.proofs.Ciphers.{sealing-size, checking-size, as-long, paths-loaded, sound-paths, blank-keys, blank-known, blank-size}
 use Rattle.demands.proofs.Blanking.{blank-unmet, blank-is}
 
@@ -108,7 +116,7 @@ right-keys k t known u =
       eq-eqb (length (k .sealing)) (length (k .checking)) (u .sealing-size ∙ sym (u .checking-size)),
     )
 
-module _ (k : Keys) (s : List ℕ) (blank : BlankSheet s) where
+module _ (k : Keys) (s : List ℕ) (fits : fit s ≡ true) where
   -- that pass 14, too
   module _ (u : UnlikeKeys (keyClass s) k) (own-mark : otherKeys (byPaths (keyClass s) 0 0 k) (editionOf s) s ≡ false) where
     own-class : otherClass k s ≡ false
@@ -118,12 +126,12 @@ module _ (k : Keys) (s : List ℕ) (blank : BlankSheet s) where
     unmet : Unmet (pairTests (editionOf s) (byPaths (keyClass s) 0 0 k) k s)
     unfolding pairTests keyTests classTests
     unmet =
-        next (right-keys k (keyClass s) (fit-class s (blank .fits)) u)
+        next (right-keys k (keyClass s) (fit-class s fits) u)
         (next (same-differ (k .sealing) (k .checking) (u .unlike)) (next own-class (next own-mark end)))
 
-    marked-serves : Serves k s
+    passing-serves : Serves k s
     unfolding firstOf
-    marked-serves =
+    passing-serves =
         record {
           sealing = u .sealing;
           checking = u .checking;
@@ -134,8 +142,16 @@ module _ (k : Keys) (s : List ℕ) (blank : BlankSheet s) where
   unlike-serves : (editionOf s ≡ edition3 → ⊥) → UnlikeKeys (keyClass s) k → Serves k s
   unfolding otherKeys
   unlike-serves old u =
-      marked-serves u
+      passing-serves u
       (edition-cases (λ e. (e ≡ edition3 → ⊥) → e .keyed && not (same (markFor (byPaths (keyClass s) 0 0 k) s) (storedMark s)) ≡ false) s (λ f g n. refl) (λ g n. refl) (λ g n. absurd (n refl)) old)
+
+  marked-serves : UnlikeKeys (keyClass s) k → markFor (byPaths (keyClass s) 0 0 k) s ≡ storedMark s → Serves k s
+  unfolding otherKeys
+  marked-serves u h = passing-serves u (go (editionOf s .keyed))
+    where
+      go : (b : Bool) → b && not (same (markFor (byPaths (keyClass s) 0 0 k) s) (storedMark s)) ≡ false
+      go true = ap not (same-eq _ _ h)
+      go false = refl
 
   serves-unlike : Serves k s → UnlikeKeys (keyClass s) k
   unfolding keyTests
@@ -172,18 +188,18 @@ module _ (k : Keys) (n t v : ℕ) (known : classKnown t ≡ true) (few : slotCou
   blanked-serves =
       let s = blankSheet n t v (keyMark (byPaths t 0 0 k) n t v) in
       let class = (known-of blanked-pair) .class in
-      marked-serves k s (made blanked-pair) (rw class u)
+      passing-serves k s (made blanked-pair .fits) (rw class u)
       (rw (of-edition blanked-pair, class, (known-of blanked-pair) .count, serial-3 n t v mark six small, mark-3 n t v mark six, same-self (keyMark (byPaths t 0 0 k) n t v)))
 
-blanking-serves : (k : Keys) (b : List ℕ) (n t v : ℕ) (s : List ℕ) → Bytes (k .sealing) → Bytes (k .checking) → v < 65536
-    → blanking k b n t v ≡ outcome (Accepted 0) s → ByBlanking k s
+blanking-serves : (k : Keys) (b : List ℕ) (n t v : ℕ) → Bytes (k .sealing) → Bytes (k .checking) → v < 65536
+    → (blanking k b n t v) .number ≡ 0 → ByBlanking k ((blanking k b n t v) .bytes)
 unfolding blanking blankTests
-blanking-serves k b n t v s sealing checking small h =
-    rw (blank-is (loadedFor t k) k b n t v 0 s h, ← paths-loaded k t (blank-keys k b n t tests) size 0 0)
+blanking-serves k b n t v sealing checking small h =
+    rw (blank-is (loadedFor t k) k b n t v h, ← paths-loaded k t (blank-keys k b n t tests) size 0 0)
     (record { blank = made (blanked-pair k n t v known few small u); edition = of-edition (blanked-pair k n t v known few small u); serves = blanked-serves k n t v known few small u })
   where
     tests : Unmet (blankTests k b n t)
-    tests = blank-unmet (loadedFor t k) k b n t v 0 s h
+    tests = blank-unmet (loadedFor t k) k b n t v h
 
     known : classKnown t ≡ true
     known = blank-known k b n t tests
@@ -206,7 +222,7 @@ blanking-serves k b n t v s sealing checking small h =
 
 module _ (k : Keys) (b s : List ℕ) (w : ByBlanking k s) (l : length b ≡ length s) where
   u : UnlikeKeys (keyClass s) k
-  u = serves-unlike k s (w .blank) (w .serves)
+  u = serves-unlike k s (w .blank .fits) (w .serves)
 
   known : classKnown (keyClass s) ≡ true
   known = fit-class s (w .blank .fits)
@@ -233,12 +249,16 @@ module _ (k : Keys) (b s : List ℕ) (w : ByBlanking k s) (l : length b ≡ leng
       same-is _ _ (not-false _ (rw (w .edition, paths-loaded k (keyClass s) right (u .sealing-size) 0 0) at
       (unmet-first (unmet-rest (classes-passed (editionOf s) (byPaths (keyClass s) 0 0 k) k s (w .serves .passes))))))
 
-  serves-blanking : blanking k b (slots s) (keyClass s) (serial s) ≡ outcome (Accepted 0) s
+  blanked-again : blanking k b (slots s) (keyClass s) (serial s) ≡ outcome (Accepted 0) s
   unfolding blanking blankingWith markFor
-  serves-blanking =
+  blanked-again =
       decided-unmet (blankTests k b (slots s) (keyClass s)) _ _ tests
       ∙ ap (λ (m : List ℕ). outcome (Accepted 0) (blankSheet (slots s) (keyClass s) (serial s) m)) mark-is
       ∙ ap (outcome (Accepted 0)) (sym (blanked-3 s (w .blank .bytes) rules (w .blank .unused) (rw (← w .edition) (blanks s (w .blank)))))
+
+  serves-blanking : Gives (blanking k b (slots s) (keyClass s) (serial s)) 0 0 s
+  unfolding answerNumber answerLength
+  serves-blanking = gives (Accepted 0) s blanked-again
 
 -- ---- a pair of keys for each class: all zeros and all ones
 
@@ -260,6 +280,16 @@ unlike t h =
       unlike = unlike-same (zeros (keyBytes t)) (replicate (keyBytes t) 1) (class-cases (λ t. same (zeros (keyBytes t)) (replicate (keyBytes t) 1) ≡ false) refl refl refl t h);
     }
 
+known-words : (t : ℕ) → OneOf (4 ∷ 6 ∷ 8 ∷ []) t → classKnown t ≡ true
+unfolding classKnown mcryptonClass OneOf
+known-words t (inl e) = rw e
+known-words t (inr (inl e)) = rw e
+known-words t (inr (inr e)) = rw e
+
+page-cases : (p : Page) → (p ≡ blank → ⊥) → ((c : List ℕ) → p ≡ holds c → ⊥) → ⊥
+page-cases blank b h = b refl
+page-cases (holds c) b h = h c refl
+
 pub premises : Premises
 unfolding classKnown mcryptonClass keyBytes
 premises =
@@ -275,9 +305,19 @@ premises =
       class = λ b. (known-of b) .class;
       blanks = blanks;
       unlike-serves = unlike-serves;
+      marked-serves = marked-serves;
       serves-unlike = serves-unlike;
+      ask-1 = λ n t l h w. unfold blankSheet1 blankSlots firstEight in made (one n t (count-within n l h) (known-words t w));
+      ask-2 = λ n t x l h w y. unfold blankSheet2 blankSlots serialHeader firstEight in made (two n t x (count-within n l h) (known-words t w) y);
+      page-is = page-cases;
       blanking-serves = blanking-serves;
       serves-blanking = serves-blanking;
+      ask-keys = λ t k a b l m d. record { sealing = a; checking = b; sealing-size = l; checking-size = m; unlike = d };
       pair = λ t h. pair t;
       unlike = unlike;
+      calls = asked-of-calls;
+      ask-none = λ s. no-stranger;
+      ask-own = λ s c turns h. past h;
+      ask-stranger = λ s k i c turns n h. met n h;
+      first = first-asks;
     }

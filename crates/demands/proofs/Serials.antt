@@ -1,9 +1,8 @@
 -- The serial does what it is for.
 use Prim.Native.Nat.{ℕ, _^_, _<_}
 use mathlib.Core.Path.{_≡_, refl, sym, ap, ap₂, subst, _∙_}
-use Rattle.captions.specs.Answers.{outcome}
+use Rattle.captions.specs.Answers.{Outcome}
 use Rattle.captions.specs.Calls.{blanking}
-use Rattle.captions.specs.declared.Answer.the-variants.{Accepted}
 use Rattle.demands.proofs.Blanking.{blank-is}
 use Rattle.demands.proofs.Ciphers.{code-blanks}
 use mathlib.Core.Logic.{_≢_}
@@ -23,10 +22,11 @@ use Rattle.captions.proofs.BlankSheets.{serial-2, serial-3}
 use Rattle.captions.proofs.KeyMark.{mark-six}
 use Rattle.captions.proofs.Starts.{start-number, start-slot, start-tail}
 use Rattle.demands.specs.Ciphers.{byPaths, blankingBy}
-use Rattle.demands.specs.Demand3.{sheetStep, Serves, Blanked, one, two, UnlikeKeys}
+use Rattle.demands.specs.Steps.{sheetStep, Serves}
+use Rattle.demands.specs.Premises.{Blanked, one, two, UnlikeKeys}
 use Rattle.demands.specs.Serials.{tailOf, WithSerial, second, third, Serials}
 use Rattle.demands.proofs.Premises.{premises, other-edition, blanked-pair, blanked-serves}
-use Rattle.demands.proofs.Demand3.{own-header}
+use Rattle.demands.proofs.NoStrangers.{own-header}
 
 -- the tail of a blank sheet is its tail after every list of calls
 tail-kept : (p : ℕ) (k : Keys) {e : Edition} {n t : ℕ} {s : List ℕ} → Blanked e n t s → Serves k s → (calls : List Call) → Captions calls
@@ -70,7 +70,7 @@ module _ (t : ℕ) (k : Keys) (known : classKnown t ≡ true) (u : UnlikeKeys t 
 module _ (p : ℕ) (k : Keys) (t n : ℕ) (calls : List Call) (known : classKnown t ≡ true) (u : UnlikeKeys t k) (few : slotCount n ≡ true) (captions : Captions calls) where
   -- unlike keys serve a sheet of editions 1 and 2
   old-serves : {e : Edition} {s : List ℕ} → e .keyed ≡ false → Blanked e n t s → Serves k s
-  old-serves {s = s} old b = premises .unlike-serves k s (premises .made b) (other-edition b old) (rw (premises .class b) u)
+  old-serves {s = s} old b = premises .unlike-serves k s (premises .made b .fits) (other-edition b old) (rw (premises .class b) u)
 
   tail-of : (x : ℕ) (s : List ℕ) → x < 65536 → WithSerial k t n x s → tailOf (finally (sheetStep p k) calls s) ≡ x
   tail-of x s h second = tail-kept p k (two n t x few known h) (old-serves refl (two n t x few known h)) calls captions ∙ serial-2 n t x h
@@ -91,9 +91,12 @@ once p p′ k s w w′ i i′ f u a a′ b b′ q =
     let ok = sound (keyClass s) k known u p in
     (start-number (byPaths (keyClass s) p p k) ok w w′ i i′ (tailOf s) (tailOf s) e a a′, start-slot (byPaths (keyClass s) p p k) ok w w′ i i′ (tailOf s) (tailOf s) e b b′)
 
-blanked : (k : Keys) (b : List ℕ) (n t x : ℕ) (s : List ℕ) → blanking k b n t x ≡ outcome (Accepted 0) s → WithSerial k t n x s
+blanked : (k : Keys) (b : List ℕ) (n t x : ℕ) → (blanking k b n t x) .number ≡ 0 → WithSerial k t n x ((blanking k b n t x) .bytes)
 unfolding blankingBy
-blanked k b n t x s h = subst (WithSerial k t n x) (sym (blank-is (byPaths t 0 0 k) k b n t x 0 s (code-blanks 0 k b n t x ∙ h))) third
+blanked k b n t x h =
+    let e = code-blanks 0 k b n t x in
+    let number = ap (λ (o : Outcome). o .number) e ∙ h in
+    subst (WithSerial k t n x) (sym (blank-is (byPaths t 0 0 k) k b n t x number) ∙ ap (λ (o : Outcome). o .bytes) e) third
 
 pub serials : Serials
 serials =
@@ -110,4 +113,5 @@ serials =
       serial-0 = λ p p′ k t n n′ s calls calls′ w i x known u f f′ c c′ b.
           ap₂ (λ (d : Ciphers) (a : ℕ). sealedField d a w i x) (paths-same t k known u p p′)
           (tail-of p k t n calls known u f c 0 s (omega arith) b ∙ sym (tail-1 p′ k t n′ calls′ known u f′ c′));
+      premises = premises;
     }

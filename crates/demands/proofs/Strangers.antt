@@ -17,7 +17,7 @@ use Rattle.captions.proofs.Editions.{editions-regular, edition-kept}
 use Rattle.captions.proofs.Effect.{pair-kept}
 use Rattle.captions.proofs.Simulation.{turned-down, read-down}
 use Rattle.demands.specs.Ciphers.{byPaths, writingBy, readingBy}
-use Rattle.demands.specs.Demand3.{keyRefusal, turnStep, Stranger}
+use Rattle.demands.specs.Steps.{keyRefusal, turnStep, Stranger}
 use Rattle.demands.proofs.Ciphers.{code-writes, code-reads}
 
 pub stranger-write : (p : ℕ) (k : Keys) (s : List ℕ) (i : ℕ) (c : List ℕ) → fit s ≡ true → keyRefusal k s ≢ 0

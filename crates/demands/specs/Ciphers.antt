@@ -8,6 +8,7 @@ use Rattle.mcrypton.specs.Cipher.{encryptBlock, decryptBlock}
 use Rattle.mcrypton.specs.Bytes.{wordsOf, bytesOf}
 use Rattle.mcrypton.specs.Vectors.{BlockVectors}
 use Rattle.cipher.specs.Key.{encryptBy, decryptBy}
+use Rattle.cipher.specs.Promise.{ClassKey, Invertible}
 use Rattle.layout.specs.Layout.{editionOf, keyClass, fit}
 use Rattle.captions.specs.Answers.{Outcome}
 use Rattle.captions.specs.Captions.{Keys, Ciphers}
@@ -49,6 +50,8 @@ pub record ClassesByMcrypton : Type 0 where
   pub no-other : (s : List ℕ) → fit s ≡ true → Count (keyClass s)
   -- and what comes out of it, on a block for each key size
   pub vectors : BlockVectors
+  -- under keys of bytes, as many as the class has, opening undoes sealing and sealing undoes opening, by any path numbers
+  pub invertible : (class p q : ℕ) (k : Keys) → ClassKey class (k .sealing) → Invertible ((byPaths class p q k) .E) ((byPaths class p q k) .D)
 
 -- the definitions that the contracts of write, read and blanking cite are these, by any path numbers
 abbrev pub CodeWrites : Type 0

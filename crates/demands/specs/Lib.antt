@@ -1,6 +1,10 @@
 pub mod Ciphers
+pub mod Steps
 pub mod Demand1
 pub mod Demand2
+pub mod Premises
+pub mod Witnesses
 pub mod Demand3
+pub mod NoStrangers
 pub mod Serials
 pub mod KeyMarks

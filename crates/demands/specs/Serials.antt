@@ -7,14 +7,13 @@ use mathlib.Core.List.{List}
 use Rattle.cipher.specs.Key.{classKnown}
 use Rattle.layout.specs.Layout.{editionOf, keyClass, slotCount, fit, blankSheet1, blankSheet2, blankSheet}
 use Rattle.captions.specs.Captions.{Keys, keyMark, startBlock, sealedField}
-use Rattle.captions.specs.Answers.{outcome}
 use Rattle.captions.specs.Calls.{blanking}
-use Rattle.captions.specs.declared.Answer.the-variants.{Accepted}
 use Rattle.captions.specs.Runs.{finally}
 use Rattle.captions.specs.Model.{Call}
 use Rattle.captions.specs.Claim.{Captions}
 use Rattle.demands.specs.Ciphers.{byPaths}
-use Rattle.demands.specs.Demand3.{sheetStep, UnlikeKeys}
+use Rattle.demands.specs.Steps.{sheetStep}
+use Rattle.demands.specs.Premises.{UnlikeKeys, Premises}
 
 -- the last two bytes, as a number, of the block that is encrypted to make a start block of s
 abbrev pub tailOf : List ℕ → ℕ
@@ -30,7 +29,7 @@ pub data WithSerial (k : Keys) (t n x : ℕ) : List ℕ → Type 0 where
 pub record Serials : Type 0 where
   -- the blank sheet of edition 2 with the serial x is such a sheet, and so is what blanking makes with the pair and the serial x
   pub of-edition-2 : (k : Keys) (t n x : ℕ) → WithSerial k t n x (blankSheet2 n t x)
-  pub blanked : (k : Keys) (b : List ℕ) (n t x : ℕ) (s : List ℕ) → blanking k b n t x ≡ outcome (Accepted 0) s → WithSerial k t n x s
+  pub blanked : (k : Keys) (b : List ℕ) (n t x : ℕ) → (blanking k b n t x) .number ≡ 0 → WithSerial k t n x ((blanking k b n t x) .bytes)
   -- the serial that a sheet was blanked with is the one in its start blocks, after every list of calls; in edition 1 it is 0
   pub kept : (p : ℕ) (k : Keys) (t n x : ℕ) (s : List ℕ) (calls : List Call) → classKnown t ≡ true → UnlikeKeys t k → slotCount n ≡ true → Captions calls → x < 65536
       → WithSerial k t n x s → tailOf (finally (sheetStep p k) calls s) ≡ x
@@ -59,3 +58,5 @@ pub record Serials : Type 0 where
       → WithSerial k t n 0 s
       → sealedField (byPaths t p p k) (tailOf (finally (sheetStep p k) calls s)) w i c
       ≡ sealedField (byPaths t p′ p′ k) (tailOf (finally (sheetStep p′ k) calls′ (blankSheet1 n′ t))) w i c
+  -- the premises are those of demand 3, where they are met and pinned
+  pub premises : Premises

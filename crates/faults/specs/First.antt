@@ -1,12 +1,12 @@
 -- What is proved of the first fault: a sheet without one meets the layout, and of the rules that a sheet breaks it is the first.
 use Prim.Native.Nat.{ℕ, _+_, _*_, _≤_, _<_}
 use mathlib.Core.Path.{_≡_}
-use mathlib.Core.Bool.{false}
+use mathlib.Core.Bool.{true, false}
 use mathlib.Core.List.{List, [], _∷_, _++_}
 use mathlib.Core.Logic.{_↔_, _⊎_}
 use lib.ListN.{length, getD}
 use Rattle.octets.specs.Bytes.{zeros}
-use Rattle.layout.specs.Layout.{editionOf, slots, keyClass, editionByte, lastWrite, markNumber, markLength, mark, blankSlot}
+use Rattle.layout.specs.Layout.{editionOf, slots, keyClass, editionByte, lastWrite, markNumber, markLength, mark, blankSlot, fit}
 use Rattle.layout.specs.Rules.{Words, MeetsLayout}
 use Rattle.faults.specs.Faults.{Point, point, firstFault, faultPoint}
 use Rattle.faults.specs.declared.HeaderRule.the-variants.{Short, Count, Class, Edition as EditionRule, Zero as HeaderZero, Length as SheetLength}
@@ -26,6 +26,19 @@ pub data Breaks (s : List ℕ) : Fault → Point → Type 0 where
       → ((1 ≤ markNumber (mark (editionOf s) s i)) × (markNumber (mark (editionOf s) s i) ≤ lastWrite s) → ⊥) → Breaks s (Mark i Number) (point 7 i 0)
   caption : (i : ℕ) → i < slots s → 192 < markLength (mark (editionOf s) s i) → Breaks s (Mark i Length) (point 8 i 0)
   mark-byte : (i j : ℕ) → i < slots s → 6 ≤ j → j < 8 → (getD (mark (editionOf s) s i) j 0 ≡ 0 → ⊥) → Breaks s (Mark i (Zero j)) (point 9 i j)
+
+-- what suffices to break each rule: `Breaks` asks for no more
+pub record Suffices (s : List ℕ) : Type 0 where
+  pub short-by : length s < 8 → Breaks s (Header Short) (point 1 0 0)
+  pub count-by : (slots s ≡ 0) ⊎ (256 < slots s) → Breaks s (Header Count) (point 2 0 0)
+  pub class-by : (keyClass s ≡ 4 → ⊥) → (keyClass s ≡ 6 → ⊥) → (keyClass s ≡ 8 → ⊥) → Breaks s (Header Class) (point 3 0 0)
+  pub edition-by : (editionByte s ≡ 1 → ⊥) → (editionByte s ≡ 2 → ⊥) → (editionByte s ≡ 3 → ⊥) → Breaks s (Header EditionRule) (point 4 0 0)
+  pub header-byte-by : (j : ℕ) → editionByte s ≡ 2 → 10 ≤ j → j ≤ 15 → (getD s j 0 ≡ 0 → ⊥) → Breaks s (Header (HeaderZero j)) (point 5 0 j)
+  pub size-by : (length s ≡ editionOf s .header + 208 * slots s → ⊥) → Breaks s (Header SheetLength) (point 6 0 0)
+  pub number-by : (i : ℕ) → i < slots s → blankSlot (editionOf s) s i ≡ false
+      → (markNumber (mark (editionOf s) s i) ≡ 0) ⊎ (lastWrite s < markNumber (mark (editionOf s) s i)) → Breaks s (Mark i Number) (point 7 i 0)
+  pub caption-by : (i : ℕ) → i < slots s → 192 < markLength (mark (editionOf s) s i) → Breaks s (Mark i Length) (point 8 i 0)
+  pub mark-byte-by : (i j : ℕ) → i < slots s → (j ≡ 6) ⊎ (j ≡ 7) → (getD (mark (editionOf s) s i) j 0 ≡ 0 → ⊥) → Breaks s (Mark i (Zero j)) (point 9 i j)
 
 -- the order of faults: a sheet under 8 bytes, the header by its lowest byte, the length, then slot by slot, a mark by its lowest byte
 unfoldable pub order : Fault → ℕ
@@ -72,6 +85,13 @@ pub record FaultCases : Type 0 where
   pub above-w : pointOf (twoSlots (marked 2 5 0) (marked 0 0 0) 0) ≡ point 7 0 0
   pub length-193 : pointOf (twoSlots (marked 1 5 0) (marked 1 193 1) 7) ≡ point 8 1 0
   pub byte-7 : pointOf (twoSlots (marked 1 5 0) (marked 1 5 1) 7) ≡ point 9 1 7
+  -- a mark by its lowest byte: number and length both wrong, bytes 6 and 7 both set
+  pub number-and-length : pointOf (twoSlots (marked 1 5 0) (marked 2 193 0) 7) ≡ point 7 1 0
+  pub bytes-6-and-7 : pointOf (twoSlots (marked 1 5 0) (0 ∷ 0 ∷ 0 ∷ 1 ∷ 0 ∷ 5 ∷ 1 ∷ 1 ∷ []) 7) ≡ point 9 1 6
+  -- the header by its lowest byte: bytes 10 and 12 of edition 2 both set; and before the slots: a byte too many beside a broken slot
+  pub bytes-10-and-12 : pointOf (0 ∷ 1 ∷ 4 ∷ 2 ∷ 0 ∷ 0 ∷ 0 ∷ 0 ∷ 0 ∷ 0 ∷ 1 ∷ 0 ∷ 1 ∷ zeros 211) ≡ point 5 0 10
+  pub class-and-byte : pointOf (0 ∷ 1 ∷ 5 ∷ 2 ∷ 0 ∷ 0 ∷ 0 ∷ 0 ∷ 0 ∷ 0 ∷ 1 ∷ zeros 213) ≡ point 3 0 0
+  pub length-and-slot : pointOf (twoSlots (marked 2 5 0) (marked 0 0 0) 0 ++ (0 ∷ [])) ≡ point 6 0 0
   -- both slots are broken, the lower one in a higher byte
   pub lowest-slot : pointOf (twoSlots (marked 1 5 1) (marked 2 193 1) 7) ≡ point 9 0 7
 
@@ -87,5 +107,12 @@ pub record FirstFault : Type 0 where
   pub first : (s : List ℕ) (f : Fault) (p : Point) → Breaks s f p → order (firstFault s) ≤ order f
   -- no two rules stand at one place of the order, so that no other fault is first
   pub only : (s : List ℕ) (f : Fault) (p : Point) → Breaks s f p → ((g : Fault) (q : Point) → Breaks s g q → order f ≤ order g) → firstFault s ≡ f
+  -- the order itself
+  pub order-is : (i j : ℕ) → (order (Header Short) ≡ 0) × (order (Header Count) ≡ 1) × (order (Header Class) ≡ 3) × (order (Header EditionRule) ≡ 4) × (order (Header (HeaderZero j)) ≡ 1 + j)
+      × (order (Header SheetLength) ≡ 17) × (order (Mark i Number) ≡ 18 + 16 * i) × (order (Mark i Length) ≡ 18 + 16 * i + 4) × (order (Mark i (Zero j)) ≡ 18 + 16 * i + j)
+  -- `fit` is the layout's own test
+  pub fit-is : (s : List ℕ) → (fit s ≡ true) ↔ MeetsLayout s
+  -- what it takes to break a rule
+  pub suffices : (s : List ℕ) → Suffices s
   -- each rule is the first in some sheet
   pub cases : FaultCases

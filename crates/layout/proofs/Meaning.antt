@@ -10,27 +10,22 @@ use lib.ListN.{length}
 use borrow.Author.Tests.{eqb-true, eq-eqb}
 use Rattle.octets.specs.Bytes.{zeros, part, allZero}
 use Rattle.octets.proofs.Bool.{and-left, and-right, and-both}
-use Rattle.octets.proofs.Clauses.{Reflects}
+use Rattle.octets.proofs.Clauses.{Reflects, reflects-yes, reflects-three}
 use Rattle.octets.proofs.Parts.{length-part}
 use Rattle.octets.proofs.Zeros.{allZero-zeros, allZero-is}
 use Rattle.cipher.specs.Key.{mcryptonClass}
 use Rattle.cipher.proofs.Promise.{mcrypton-cases}
 use Rattle.layout.specs.Layout.{Edition, edition1, edition2, edition3, rule1, rule2, rule3, editionOf, editionByte, keyClass, slots, lastWrite, sheetSize, mark, field, writtenMark, blankSlot, fitSlot, fitIn, fit}
-use Rattle.layout.specs.Rules.{Words, four, six, eight, IsBlank, IsWritten, Edition1, Edition2, Edition3, MeetsLayout, one, two, three}
+use Rattle.layout.specs.Rules.{Words, IsBlank, IsWritten, Edition1, Edition2, Edition3, MeetsLayout, one, two, three}
 use Rattle.layout.specs.Rules as Said
 use Rattle.layout.proofs.Header.{count-low, count-high, count-within, edition-cases, edition-one, edition-two, edition-three}
 use Rattle.layout.proofs.Fits.{Rules, fit-rules, rules-fit, mark-written, written-mark, length-mark, length-field}
 
 -- ---- t
 
-pub words-known : {t : ℕ} → Words t → mcryptonClass t ≡ true
-unfolding mcryptonClass
-words-known four = refl
-words-known six = refl
-words-known eight = refl
-
 pub reflects-words : (t : ℕ) → Reflects (mcryptonClass t) (Words t)
-reflects-words t = record { holds = mcrypton-cases Words four six eight t; fails = λ e w. false≢true (sym e ∙ words-known w) }
+unfolding mcryptonClass
+reflects-words t = reflects-three t 4 6 8
 
 -- ---- a slot
 
@@ -121,7 +116,7 @@ rule-one s h =
 
 one-rule : (s : List ℕ) → Edition1 s → rule1 s ≡ true
 unfolding rule1
-one-rule s m = and-both (mcryptonClass (keyClass s)) (eqb (editionByte s) 1) (words-known (m .words)) (eq-eqb (editionByte s) 1 (m .edition))
+one-rule s m = and-both (mcryptonClass (keyClass s)) (eqb (editionByte s) 1) (reflects-yes (reflects-words (keyClass s)) (m .words)) (eq-eqb (editionByte s) 1 (m .edition))
 
 rule-two : (s : List ℕ) → 16 ≤ length s → rule2 s ≡ true → Edition2 s
 unfolding rule2
@@ -136,7 +131,7 @@ rule-two s l h =
 two-rule : (s : List ℕ) → Edition2 s → rule2 s ≡ true
 unfolding rule2
 two-rule s m =
-    and-both (mcryptonClass (keyClass s)) _ (words-known (m .words))
+    and-both (mcryptonClass (keyClass s)) _ (reflects-yes (reflects-words (keyClass s)) (m .words))
     (and-both (eqb (editionByte s) 2) _ (eq-eqb (editionByte s) 2 (m .edition)) (zeros-all (part s 10 6) 6 (m .six-zeros)))
 
 rule-three : (s : List ℕ) → rule3 s ≡ true → Edition3 s
@@ -149,7 +144,7 @@ rule-three s h =
 
 three-rule : (s : List ℕ) → Edition3 s → rule3 s ≡ true
 unfolding rule3
-three-rule s m = and-both (mcryptonClass (keyClass s)) (eqb (editionByte s) 3) (words-known (m .words)) (eq-eqb (editionByte s) 3 (m .edition))
+three-rule s m = and-both (mcryptonClass (keyClass s)) (eqb (editionByte s) 3) (reflects-yes (reflects-words (keyClass s)) (m .words)) (eq-eqb (editionByte s) 3 (m .edition))
 
 -- a sheet is fit exactly if it meets the layout
 fit-meets : (s : List ℕ) → fit s ≡ true → MeetsLayout s

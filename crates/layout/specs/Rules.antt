@@ -1,17 +1,16 @@
 -- The layout of a sheet rule by rule, in the words of document 01 and of document 02, requests 3 and 7: the plain meaning of `fit`.
 use Prim.Native.Nat.{ℕ, _+_, _*_, _≤_, _<_}
 use mathlib.Core.Path.{_≡_}
-use mathlib.Core.List.{List}
+use mathlib.Core.List.{List, [], _∷_}
 use mathlib.Core.Logic.{_⊎_}
 use lib.ListN.{length}
 use Rattle.octets.specs.Bytes.{zeros, part}
+use Rattle.octets.specs.Clauses.{OneOf}
 use Rattle.layout.specs.Layout.{Edition, edition1, edition2, edition3, slots, keyClass, editionByte, lastWrite, markNumber, markLength, mark, field}
 
 -- t: 4, 6 or 8
-pub data Words : ℕ → Type 0 where
-  four : Words 4
-  six : Words 6
-  eight : Words 8
+abbrev pub Words : ℕ → Type 0
+Words t = OneOf (4 ∷ 6 ∷ 8 ∷ []) t
 
 module _ (e : Edition) where
   -- a blank slot has all 208 bytes zero

@@ -5,3 +5,4 @@ pub mod Whole
 pub mod Lengths
 pub mod Example
 pub mod Limit
+pub mod Printed

@@ -6,6 +6,6 @@ pub mod ByteBlocks
 pub mod Calls
 pub mod Table
 pub mod FirstHalf
-pub mod Refusals
 pub mod Vectors
+pub mod Refusals
 pub mod Each

@@ -10,7 +10,7 @@ use Rattle.rounds.specs.declared.Direction.the-variants.{Encrypt, Decrypt}
 use Rattle.rounds.proofs.Blocks.{block-σ, block-τ, block-φ, σ-σ, φ-σ, φ-φ, round-back}
 use Rattle.schedule.specs.Schedule.{Key, encryptionKey, decryptionKey}
 use Rattle.schedule.proofs.Registers.{block-encryption-key, key-back}
-use Rattle.mcrypton.specs.Cipher.{after, steps, encryptBlock, decryptBlock}
+use Rattle.mcrypton.specs.Cipher.{afterBy, after, steps, encryptBlock, decryptBlock}
 use Rattle.mcrypton.proofs.Paths.{any-path}
 
 module _ (d : Direction) (keys keys′ : ℕ → List ℕ) (good : (r : ℕ) → r ≤ 12 → Block (keys r))
@@ -23,13 +23,13 @@ module _ (d : Direction) (keys keys′ : ℕ → List ℕ) (good : (r : ℕ) →
   y r = after (opposite d) q keys′ (φ (x 12)) r
 
   block-x : (r : ℕ) → r ≤ 12 → Block (x r)
-  unfolding x after
+  unfolding x afterBy
   block-x zero l = block-σ (good 0 l) block
   block-x (suc r) l =
       subst Block (sym (any-path d p (suc r) (keys (suc r)) (x r))) (block-σ (good (suc r) l) (block-τ (π (γ d (x r)))))
 
   meets : (r : ℕ) → r ≤ 12 → y r ≡ φ (σ (keys (12 - r)) (x (12 - r)))
-  unfolding x y after
+  unfolding x y afterBy
   meets zero l = ap (λ (u : List ℕ). σ u (φ (x 12))) (back 0 l) ∙ sym (φ-σ (good 12 (le-refl 12)) (block-x 12 (le-refl 12)))
   meets (suc r) l =
       any-path (opposite d) q (suc r) (keys′ (suc r)) (y r)
@@ -50,7 +50,7 @@ module _ (d : Direction) (keys keys′ : ℕ → List ℕ) (good : (r : ℕ) →
   steps-back = ap φ (meets 12 (le-refl 12) ∙ ap φ added-twice) ∙ φ-φ block
     where
       added-twice : σ (keys 0) (x 0) ≡ b
-      added-twice = unfold x after in σ-σ (good 0 (omega arith)) block
+      added-twice = unfold x afterBy in σ-σ (good 0 (omega arith)) block
 
 module _ (k : List ℕ) (h : Key k) (p q : ℕ) (b : List ℕ) (block : Block b) where
   pub decrypt-encrypt : decryptBlock q k (encryptBlock p k b) ≡ b

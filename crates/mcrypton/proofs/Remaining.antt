@@ -10,7 +10,7 @@ use Rattle.rounds.specs.declared.Direction.the-variants.{Encrypt, Decrypt}
 use Rattle.rounds.proofs.Paths.{same-round}
 use Rattle.schedule.specs.Schedule.{forward, backward, times, roundKey}
 use Rattle.schedule.specs.declared.Register.{Register}
-use Rattle.mcrypton.specs.Cipher.{pathRound, after, steps}
+use Rattle.mcrypton.specs.Cipher.{pathRound, afterBy, after, steps}
 use Rattle.mcrypton.specs.Registers.{KeyAsked, encryptFrom, decryptFrom}
 use Rattle.mcrypton.proofs.Paths.{any-path}
 
@@ -52,13 +52,13 @@ module _ (d : Direction) (p : ℕ) (step : Register → Register) (key : Registe
     done r = after d p (λ m. key (times m step u)) b r
 
     from : (n r m : ℕ) → n + r ≡ m → remaining d p step key n r (times r step u) (done r) ≡ φ (done m)
-    unfolding remaining after times done
+    unfolding remaining afterBy times done
     from zero r m e = let f : r ≡ m = omega arith in rw f
     from (suc n) r m e = from n (suc r) m (omega arith)
 
     -- all twelve rounds, where a is the sum of the block and round key 0
     pub begun : {k a : List ℕ} → k ≡ key u → a ≡ σ k b → remaining d p step key 12 0 u a ≡ steps d p (λ m. key (times m step u)) b
-    unfolding steps after times done
+    unfolding steps afterBy times done
     begun f g = rw (g, f) (from 12 0 12 refl)
 
 pub encrypt-begun : (p : ℕ) (u : Register) (b : List ℕ) {k a : List ℕ} → k ≡ roundKey u → a ≡ σ k b → remaining Encrypt p forward roundKey 12 0 u a ≡ encryptFrom p u b

@@ -4,5 +4,5 @@ pub mod Bytes
 pub mod Calls
 pub mod Claims
 pub mod Cases
-pub mod Refusals
 pub mod Vectors
+pub mod Refusals

@@ -2,22 +2,18 @@
 use Prim.Native.Nat.{ℕ}
 use mathlib.Core.Path.{_≡_}
 use mathlib.Core.List.{List, [], _∷_}
-use lib.ListN.{length}
+use lib.ListN.{length, replicate}
+use Rattle.octets.specs.Bytes.{zeros}
 use Rattle.octets.specs.Outcome.{Outcome}
-use Rattle.octets.specs.Clauses.{Clause, _when_, Exactly, Each}
+use Rattle.octets.specs.Clauses.{Clause, _when_, Exactly, OneOf}
 use Rattle.mcrypton.specs.Bytes.{encryptBytes, decryptBytes}
 use Rattle.mcrypton.specs.Calls.{encrypting, decrypting}
-
--- a key of 8, 12 or 16 bytes
-pub data KeyLength : ℕ → Type 0 where
-  eight : KeyLength 8
-  twelve : KeyLength 12
-  sixteen : KeyLength 16
+use Rattle.mcrypton.specs.Vectors.{key4, key6, key8, block}
 
 -- the key k, the block b and the output out of a call
 unfoldable pub blockClauses : List ℕ → List ℕ → List ℕ → List Clause
 blockClauses k b out =
-    (1 when (KeyLength (length k) → ⊥))
+    (1 when (OneOf (8 ∷ 12 ∷ 16 ∷ []) (length k) → ⊥))
     ∷ (3 when ((length b ≡ 8) × (length out ≡ 8) → ⊥))
     ∷ []
 
@@ -26,21 +22,30 @@ pub record Leaves (o : Outcome) (bytes : List ℕ) : Type 0 where
   pub len : o .len ≡ 0
   pub bytes-are : o .bytes ≡ bytes
 
--- a call of one kind that answers n
-pub record BlockOf (call : ℕ → List ℕ → List ℕ → List ℕ → Outcome) (n : ℕ) : Type 0 where
-  pub path : ℕ
-  pub key : List ℕ
-  pub block : List ℕ
-  pub output : List ℕ
-  pub answers : (call path key block output) .number ≡ n
-
 -- of a call by the path number p, which is to make the block that made gives
 pub record Refusals (call : ℕ → List ℕ → List ℕ → List ℕ → Outcome) (made : ℕ → List ℕ → List ℕ → List ℕ) : Type 0 where
   pub exactly : (p : ℕ) (k b out : List ℕ) → Exactly ((call p k b out) .number) (blockClauses k b out)
   pub refused : (p : ℕ) (k b out : List ℕ) → ((call p k b out) .number ≡ 0 → ⊥) → Leaves (call p k b out) out
   pub accepted : (p : ℕ) (k b out : List ℕ) → (call p k b out) .number ≡ 0 → Leaves (call p k b out) (made p k b)
-  pub each : Each (BlockOf call) (0 ∷ 1 ∷ 3 ∷ [])
+
+-- calls whole, in plain values: number, length and the output after it
+pub record BlockCalls : Type 0 where
+  -- accepted, with a key of each size
+  pub encrypt-4 : encrypting 0 key4 block (zeros 8) ≡ record { number = 0; len = 0; bytes = 0x6d ∷ 0x36 ∷ 0xf5 ∷ 0x95 ∷ 0xbc ∷ 0x53 ∷ 0x69 ∷ 0x58 ∷ [] }
+  pub decrypt-4 : decrypting 0 key4 block (zeros 8) ≡ record { number = 0; len = 0; bytes = 0x66 ∷ 0x2f ∷ 0x3b ∷ 0x4e ∷ 0xa4 ∷ 0xba ∷ 0xce ∷ 0x4e ∷ [] }
+  pub encrypt-6 : encrypting 0 key6 block (zeros 8) ≡ record { number = 0; len = 0; bytes = 0x00 ∷ 0x6c ∷ 0x52 ∷ 0x2a ∷ 0x6e ∷ 0x57 ∷ 0xb6 ∷ 0xd5 ∷ [] }
+  pub decrypt-6 : decrypting 0 key6 block (zeros 8) ≡ record { number = 0; len = 0; bytes = 0xe1 ∷ 0x27 ∷ 0x96 ∷ 0x27 ∷ 0xe5 ∷ 0xef ∷ 0xcb ∷ 0x66 ∷ [] }
+  pub encrypt-8 : encrypting 0 key8 block (zeros 8) ≡ record { number = 0; len = 0; bytes = 0x80 ∷ 0xbd ∷ 0x6f ∷ 0xb5 ∷ 0x41 ∷ 0x88 ∷ 0x59 ∷ 0x28 ∷ [] }
+  pub decrypt-8 : decrypting 0 key8 block (zeros 8) ≡ record { number = 0; len = 0; bytes = 0xc1 ∷ 0xc9 ∷ 0x70 ∷ 0xa8 ∷ 0x7a ∷ 0x6a ∷ 0xf9 ∷ 0x6a ∷ [] }
+  -- refused: for a key of 9 bytes; for a block, and for an output, of 7
+  pub encrypt-key : encrypting 0 (zeros 9) block (replicate 8 5) ≡ record { number = 1; len = 0; bytes = replicate 8 5 }
+  pub decrypt-key : decrypting 0 (zeros 9) block (replicate 8 5) ≡ record { number = 1; len = 0; bytes = replicate 8 5 }
+  pub encrypt-block : encrypting 0 key4 (zeros 7) (replicate 8 5) ≡ record { number = 3; len = 0; bytes = replicate 8 5 }
+  pub decrypt-block : decrypting 0 key4 (zeros 7) (replicate 8 5) ≡ record { number = 3; len = 0; bytes = replicate 8 5 }
+  pub encrypt-output : encrypting 0 key4 block (replicate 7 5) ≡ record { number = 3; len = 0; bytes = replicate 7 5 }
+  pub decrypt-output : decrypting 0 key4 block (replicate 7 5) ≡ record { number = 3; len = 0; bytes = replicate 7 5 }
 
 pub record BlockRefusals : Type 0 where
   pub encrypt : Refusals encrypting encryptBytes
   pub decrypt : Refusals decrypting decryptBytes
+  pub calls : BlockCalls

@@ -96,10 +96,10 @@ module _ (D : List ℕ → List ℕ) where
 no-blocks : ByteBlocks 0 []
 no-blocks = record { size = refl; bytes = none }
 
-first-block : {n : ℕ} {p : List ℕ} → ByteBlocks (suc n) p → ByteBlock (take 8 p)
+pub first-block : {n : ℕ} {p : List ℕ} → ByteBlocks (suc n) p → ByteBlock (take 8 p)
 first-block {n} {p} h = record { size = length-take-le 8 p (omega (arith, h .size)); bytes = take-bytes 8 (h .bytes) }
 
-other-blocks : {n : ℕ} {p : List ℕ} → ByteBlocks (suc n) p → ByteBlocks n (drop 8 p)
+pub other-blocks : {n : ℕ} {p : List ℕ} → ByteBlocks (suc n) p → ByteBlocks n (drop 8 p)
 other-blocks {n} {p} h = record { size = length-drop 8 p ∙ omega (arith, h .size); bytes = drop-bytes 8 (h .bytes) }
 
 join-block : {n : ℕ} {x p : List ℕ} → ByteBlock x → ByteBlocks n p → ByteBlocks (suc n) (x ++ p)
@@ -112,20 +112,20 @@ zero-blocks {p = x ∷ p} h = absurd (omega (arith, h .size))
 
 module _ {E D : List ℕ → List ℕ} (promise : Invertible E D) where
   -- the first block of each direction is a block
-  encrypted-first : {n : ℕ} {c p : List ℕ} → ByteBlock c → ByteBlocks (suc n) p → ByteBlock (E (xorBytes (take 8 p) c))
+  pub encrypted-first : {n : ℕ} {c p : List ℕ} → ByteBlock c → ByteBlocks (suc n) p → ByteBlock (E (xorBytes (take 8 p) c))
   encrypted-first hc hp = promise .encrypts _ (xor-block (first-block hp) hc)
 
-  decrypted-first : {n : ℕ} {c s : List ℕ} → ByteBlock c → ByteBlocks (suc n) s → ByteBlock (xorBytes (D (take 8 s)) c)
+  pub decrypted-first : {n : ℕ} {c s : List ℕ} → ByteBlock c → ByteBlocks (suc n) s → ByteBlock (xorBytes (D (take 8 s)) c)
   decrypted-first hc hs = xor-block (promise .decrypts _ (first-block hs)) hc
 
-  encrypted-blocks : (n : ℕ) (c p : List ℕ) → ByteBlock c → ByteBlocks n p → ByteBlocks n (cbcEncrypt E n c p)
+  pub encrypted-blocks : (n : ℕ) (c p : List ℕ) → ByteBlock c → ByteBlocks n p → ByteBlocks n (cbcEncrypt E n c p)
   unfolding cbcEncrypt
   encrypted-blocks zero c p hc hp = no-blocks
   encrypted-blocks (suc n) c p hc hp =
       let b : ByteBlock (E (xorBytes (take 8 p) c)) = encrypted-first hc hp in
       join-block b (encrypted-blocks n (E (xorBytes (take 8 p) c)) (drop 8 p) b (other-blocks hp))
 
-  decrypted-blocks : (n : ℕ) (c s : List ℕ) → ByteBlock c → ByteBlocks n s → ByteBlocks n (cbcDecrypt D n c s)
+  pub decrypted-blocks : (n : ℕ) (c s : List ℕ) → ByteBlock c → ByteBlocks n s → ByteBlocks n (cbcDecrypt D n c s)
   unfolding cbcDecrypt
   decrypted-blocks zero c s hc hs = no-blocks
   decrypted-blocks (suc n) c s hc hs =

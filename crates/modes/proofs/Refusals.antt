@@ -1,19 +1,24 @@
 -- Demand 1, of the public CMAC, holds.
 use Prim.Native.Nat.{ℕ}
 use mathlib.Core.Path.{_≡_, refl}
-use mathlib.Core.List.{List, []}
+use mathlib.Core.List.{List}
 use native.Mathlib.Omega.{arith}
 use lib.ListN.{length}
 use Rattle.octets.specs.Bytes.{zeros}
 use Rattle.octets.specs.Outcome.{Outcome, decided}
-use Rattle.octets.specs.Clauses.{Exactly, none, and}
+use Rattle.octets.specs.Clauses.{Exactly}
 use Rattle.octets.proofs.Clauses.{reflects-not, reflects-eqb, Means, Refuses, decided-exactly, decided-refused, decided-zero}
-use Rattle.mcrypton.specs.Bytes.{keyLength, encryptBytes}
+use Rattle.rounds.specs.Word.{rotate1, rotate}
+use Rattle.rounds.specs.Array.{sboxes, sbox, γ, π, τ}
+use Rattle.schedule.specs.Schedule.{byCount, forwardWords, forward4, forward6, forward8, forward, start, eightWords, times, register, constants, registerT, lastWord, roundKey, encryptionKey}
+use Rattle.mcrypton.specs.Cipher.{byWords, afterBy, steps, encryptBlock}
+use Rattle.mcrypton.specs.Bytes.{keyLength, wordsOf, bytesOf, encryptBytes}
 use Rattle.mcrypton.specs.Refusals.{Leaves}
 use Rattle.mcrypton.proofs.Refusals.{reflects-length}
-use Rattle.modes.specs.CMAC.{cmac}
+use Rattle.modes.specs.Xor.{xorBytes}
+use Rattle.modes.specs.CMAC.{shiftLeft, double, blockCount, lastBlock, messageBlock, chain, cmac}
 use Rattle.modes.specs.Answers.{macNumber, macLength, macOutcome, authenticating}
-use Rattle.modes.specs.Refusals.{macClauses, MacRefusals}
+use Rattle.modes.specs.Refusals.{macClauses, MacCalls, MacRefusals}
 use Rattle.modes.specs.declared.MacAnswer.{MacAnswer}
 use Rattle.modes.specs.declared.MacAnswer.the-variants.{Accepted, WrongKey, WrongSpan}
 
@@ -41,16 +46,10 @@ module _ (k m out : List ℕ) where
       decided-zero macNumber (λ (o : Outcome). o .number) _ _ refl (λ a. refl) (λ o. Leaves o (cmac (encryptBytes 0 k) m))
       (record { len = no-length Accepted; bytes-are = refl }) _ (λ e. omega (arith, e), ((λ e. omega (arith, e)), tt))
 
+-- by computing
+mac-calls : MacCalls
+unfolding rotate1 rotate sboxes sbox γ π τ byCount forwardWords forward4 forward6 forward8 forward start eightWords times register constants registerT lastWord roundKey encryptionKey byWords afterBy steps encryptBlock wordsOf bytesOf encryptBytes xorBytes shiftLeft double blockCount lastBlock messageBlock chain cmac zeros authenticating macOutcome macNumber macLength decided keyLength
+mac-calls = record { mac-4 = refl; mac-6 = refl; mac-8 = refl; empty = refl; wrong-key = refl; wrong-span = refl }
+
 pub mac-refusals : MacRefusals
-unfolding authenticating macOutcome macNumber decided keyLength zeros
-mac-refusals =
-    record {
-      exactly = mac-exactly;
-      refused = mac-refused;
-      accepted = mac-accepted;
-      each =
-          and (record { key = zeros 8; message = []; output = zeros 8; answers = refl })
-          (and (record { key = zeros 9; message = []; output = zeros 8; answers = refl })
-          (and (record { key = zeros 8; message = []; output = zeros 9; answers = refl })
-          none));
-    }
+mac-refusals = record { exactly = mac-exactly; refused = mac-refused; accepted = mac-accepted; calls = mac-calls }

@@ -9,7 +9,7 @@ use lib.Dec.{eqb, leb, ltb}
 use borrow.Author.Tests.{eqb-true, eqb-false, leb-true, leb-false, ltb-true, ltb-false}
 use Rattle.octets.specs.Bytes.{same}
 use Rattle.octets.specs.Outcome.{Row, _gives_, decided}
-use Rattle.octets.specs.Clauses.{Clause, _when_, Answers, Exactly}
+use Rattle.octets.specs.Clauses.{Clause, _when_, Answers, Exactly, OneOf}
 use Rattle.octets.proofs.Compare.{same-is, same-eq}
 
 -- ---- a test and the proposition that it decides
@@ -57,6 +57,11 @@ reflects-ltb a b = record { holds = ltb-true a b; fails = λ e h. omega (arith, 
 
 pub reflects-same : (s t : List ℕ) → Reflects (same s t) (s ≡ t)
 reflects-same s t = record { holds = same-is s t; fails = λ e h. false≢true (sym e ∙ same-eq s t h) }
+
+-- n is one of three
+pub reflects-three : (n a b c : ℕ) → Reflects (eqb n a || (eqb n b || eqb n c)) (OneOf (a ∷ b ∷ c ∷ []) n)
+unfolding OneOf
+reflects-three n a b c = reflects-or (reflects-eqb n a) (reflects-or (reflects-eqb n b) (reflects-eqb n c))
 
 -- ---- answers
 

@@ -8,3 +8,4 @@ pub mod Numbers
 pub mod Compare
 pub mod Outcome
 pub mod Clauses
+pub mod Plain

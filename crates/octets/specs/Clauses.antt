@@ -18,6 +18,12 @@ Answers ((m when P) ∷ clauses) n = (P × (n ≡ m)) ⊎ ((P → ⊥) × Answer
 pub record Exactly (number : ℕ) (clauses : List Clause) : Type 0 where
   pub answers : (n : ℕ) → (number ≡ n) ↔ Answers clauses n
 
+-- n is one of these
+unfoldable pub OneOf : List ℕ → ℕ → Type 0
+OneOf [] n = ⊥
+OneOf (m ∷ []) n = n ≡ m
+OneOf (m ∷ (l ∷ ms)) n = (n ≡ m) ⊎ OneOf (l ∷ ms) n
+
 -- P at each number of a list
 pub data Each (P : ℕ → Type 0) : List ℕ → Type 0 where
   none : Each P []

@@ -1,3 +1,4 @@
 pub mod Bytes
+pub mod Plain
 pub mod Outcome
 pub mod Clauses

@@ -33,6 +33,8 @@ use Rattle.captions.proofs.Tables.{Unmet, end, next}
 use Rattle.dated.specs.declared.DatedAnswer.{DatedAnswer}
 use Rattle.dated.specs.declared.DatedAnswer.the-variants.{Read, UnfitTerms, NoSuchDate, NotOnShow}
 use Rattle.dated.specs.Calls.{DatedOutcome, datedNumber, datedLength, datedPoint, ofTerms, datedOutcome, undated, datedTests, datingWith, dating}
+use Rattle.exhibits.proofs.Exhibits.{exhibits}
+use Rattle.octets.proofs.Plain.{plain as plain-bytes}
 use Rattle.demands.specs.Ciphers.{byPaths}
 use Rattle.demands.proofs.Ciphers.{loaded-paths, paths-sound, classes-by-mcrypton}
 use Rattle.pointing.specs.Pointing.{AtFault, FirstLeft, CheckAgrees, AtChange, Points, PointsAtTerms, Never, Pointing}
@@ -267,4 +269,6 @@ pointing =
       read = λ p q k s i window a b y. read-points p q k s i a b y window;
       dated-terms = dated-terms;
       dated = dated-points;
+      exhibits = exhibits;
+      ask = λ s h. plain-bytes .bytes s .1 h;
     }

@@ -15,6 +15,7 @@ use Rattle.captions.specs.Answers.{Outcome}
 use Rattle.captions.specs.Captions.{Keys, Ciphers, checkOf, opened}
 use Rattle.captions.specs.Calls.{writing, clearing, reading, blanking}
 use Rattle.dated.specs.Calls.{dating}
+use Rattle.exhibits.specs.Exhibits.{Exhibits}
 use Rattle.demands.specs.Ciphers.{byPaths, ClassesByMcrypton}
 
 -- ---- an unfit sheet
@@ -82,3 +83,7 @@ pub record Pointing : Type 0 where
       → PointsAtTerms s ((dating k s t i day window) .outcome .points)
   pub dated : (p q : ℕ) (k : Keys) (s t : List ℕ) (i day : ℕ) (window : List ℕ) → Bytes (k .sealing) → Bytes (k .checking) → Bytes s
       → (dating k s t i day window) .unfit-terms ≡ false → Points s (AtChange (byPaths (keyClass s) p q k) s i) ((dating k s t i day window) .outcome)
+  -- rules 1, 10, 11 and 12 are met in whole calls
+  pub exhibits : Exhibits
+  -- of what is read nothing is asked but that it is bytes
+  pub ask : (s : List ℕ) → ((i : ℕ) → getD s i 0 < 256) → Bytes s

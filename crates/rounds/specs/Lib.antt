@@ -1,3 +1,4 @@
 pub mod Word
 pub mod Array
 pub mod Lookup
+pub mod Vectors

@@ -1,2 +1,3 @@
 pub mod Registers
 pub mod Keys
+pub mod Vectors

@@ -3,12 +3,13 @@ use Prim.Native.Nat.{ℕ, _+_, _*_, _≤_, _<_}
 use mathlib.Core.Path.{_≡_, refl, sym, _∙_}
 use mathlib.Core.Bool.{Bool, true, false, false≢true}
 use mathlib.Core.List.{List}
+use mathlib.Core.Logic.{_↔_}
 use native.Mathlib.Omega.{arith}
 use lib.Dec.{leb}
 use lib.ListN.{length}
 use borrow.Author.Tests.{leb-true, le-leb}
 use Rattle.octets.specs.Bytes.{allBelow}
-use Rattle.octets.proofs.Clauses.{Reflects, reflects-and, reflects-as, reflects-eqb, reflects-leb}
+use Rattle.octets.proofs.Clauses.{Reflects, reflects-and, reflects-as, reflects-yes, reflects-no, reflects-eqb, reflects-leb}
 use Rattle.octets.proofs.Compare.{allBelow-true, allBelow-at}
 use Rattle.terms.specs.Terms.{count, opening, closing, fitTerms, onShow}
 use Rattle.terms.specs.Rules.{MeetsTerms, OnShow}
@@ -35,6 +36,26 @@ pub reflects-show : (n : ℕ) (t : List ℕ) (i day : ℕ) → Reflects (onShow 
 unfolding onShow
 reflects-show n t i day =
     reflects-as (λ h. record { from = h .0; to = h .1 }) (λ o. (o .from, o .to)) (reflects-and (reflects-leb (opening t i) day) (reflects-leb day (closing n t i)))
+
+-- the same written out
+pub meets-plain : (n : ℕ) (t : List ℕ) → MeetsTerms n t
+    ↔ ((count t ≡ n) × (length t ≡ 2 + 4 * n) × ((i : ℕ) → i < n → (opening t i ≤ 36524) × (closing n t i ≤ 36524)))
+meets-plain n t = (
+  λ m. (m .same-count, m .size, λ i l. (m .openings i l, m .closings i l)),
+  λ h. record { same-count = h .0; size = h .1; openings = λ i l. h .2 i l .0; closings = λ i l. h .2 i l .1 },
+)
+
+pub show-plain : (n : ℕ) (t : List ℕ) (i day : ℕ) → OnShow n t i day ↔ ((opening t i ≤ day) × (day ≤ closing n t i))
+show-plain n t i day = (λ o. (o .from, o .to), λ h. record { from = h .0; to = h .1 })
+
+-- a term of one day
+module _ (n : ℕ) (t : List ℕ) (i day : ℕ) (e : opening t i ≡ day) (f : closing n t i ≡ day) where
+  pub one-day : onShow n t i day ≡ true
+  one-day = reflects-yes (reflects-show n t i day) (show-plain n t i day .1 (omega (arith, e), omega (arith, f)))
+
+  pub no-other-day : (other : ℕ) → (other ≡ day → ⊥) → onShow n t i other ≡ false
+  no-other-day other d =
+      reflects-no (reflects-show n t i other) (λ o. let h = show-plain n t i other .0 o in d (omega (arith, h .0, h .1, e, f)))
 
 pub never : (n : ℕ) (t : List ℕ) (i day : ℕ) → closing n t i < opening t i → onShow n t i day ≡ false
 never n t i day l = go (onShow n t i day) refl

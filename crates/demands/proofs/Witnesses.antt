@@ -1,8 +1,8 @@
--- Strangers of each number can be met, on a sheet that blanking makes: by computing.
+-- Demand 3 at work: the model and the strangers by computing, the run on a sheet from the exhibited calls.
 use Prim.Native.Nat.{ℕ}
-use mathlib.Core.Path.{_≡_, refl, sym, _∙_}
+use mathlib.Core.Path.{_≡_, refl, sym, ap, _∙_, subst}
 use mathlib.Core.Logic.{_≢_}
-use mathlib.Core.List.{[], _∷_}
+use mathlib.Core.List.{List, [], _∷_}
 use native.Mathlib.Omega.{arith}
 use lib.Dec.{lit<}
 use lib.ListN.{replicate}
@@ -12,23 +12,30 @@ use Rattle.octets.proofs.Zeros.{zeros-bytes}
 use Rattle.rounds.specs.Word.{rotate1, rotate}
 use Rattle.rounds.specs.Array.{sboxes, sbox, γ, π, τ}
 use Rattle.schedule.specs.Schedule.{byCount, forwardWords, forward4, forward6, forward8, forward, start, eightWords, times, register, constants, registerT, lastWord, roundKey, encryptionKey}
-use Rattle.mcrypton.specs.Cipher.{byWords, pathRound, after, steps, encryptBlock}
+use Rattle.mcrypton.specs.Cipher.{byWords, afterBy, steps, encryptBlock}
 use Rattle.mcrypton.specs.Bytes.{wordsOf, bytesOf, encryptBytes}
 use Rattle.modes.specs.Xor.{xorBytes}
 use Rattle.modes.specs.CMAC.{shiftLeft, double, blockCount, lastBlock, messageBlock, chain, cmac}
 use Rattle.cipher.specs.Key.{mcryptonClass, classKnown, keyBytes, sheetKeyLength, encryptBy}
 use Rattle.layout.specs.Layout.{editionOf, slots, keyClass, editionByte, serial, storedMark, slotCount, sheetSize, firstEight, serialHeader, blankHeader, blankSlots, blankSheet}
-use Rattle.captions.specs.Answers.{answerNumber, outcome}
+use Rattle.captions.specs.Answers.{Outcome, answerNumber, answerLength, outcome}
 use Rattle.captions.specs.Captions.{Keys, pair, markBlock, keyMark, markFor, otherKeys}
 use Rattle.captions.specs.Calls.{wrongKeys, otherClass, keyTests, classTests, pairTests, blankTests, blankingWith, blanking}
 use Rattle.captions.specs.declared.Answer.the-variants.{Accepted}
-use Rattle.captions.specs.Runs.{replies, finally}
-use Rattle.captions.specs.Model.{holds, newModel, page, answered, modelStep}
-use Rattle.captions.specs.Turns.{ownCalls, EachStranger, none as no-stranger, past, met, turnModel}
+use Rattle.captions.specs.Runs.{Reply, replies, finally}
+use Rattle.captions.specs.Model.{writes, holds, newModel, page, answered, modelStep}
+use Rattle.captions.specs.Turns.{Turn, own, ownCalls, EachStranger, none as no-stranger, past, met, turnModel}
 use Rattle.captions.specs.Claim as Claim
+use Rattle.captions.specs.Claim.{stepped}
+use Rattle.exhibits.specs.Values.{keys, abc, nearlyWorn, wornOne}
+use Rattle.exhibits.proofs.Exhibits.{exhibits}
 use Rattle.demands.specs.Ciphers.{byPaths, blankingBy}
-use Rattle.demands.specs.Demand3.{keyRefusal, Stranger, firstPair, sevenTurns, strangersSheet, StrangersMet}
+use Rattle.demands.specs.Steps.{Gives, keyRefusal, turnStep, Stranger}
+use Rattle.demands.specs.Witnesses.{says, firstPair, sevenTurns, strangersSheet, ModelRun, WornRun, StrangersMet, Witnesses}
+use Rattle.demands.specs.Premises.{ByBlanking}
 use Rattle.demands.proofs.Ciphers.{code-blanks}
+use Rattle.demands.proofs.Gives.{gives}
+use Rattle.demands.proofs.Turns.{turn-write}
 use Rattle.demands.proofs.Premises.{premises, ones-bytes}
 
 -- the pair exchanged
@@ -36,11 +43,11 @@ exchanged : Keys
 exchanged = pair (replicate 8 1) (zeros 8)
 
 own-mark : keyMark (byPaths 4 0 0 firstPair) 2 4 0x5a04 ≡ 0x91 ∷ 0xa0 ∷ 0x8f ∷ 0x35 ∷ 0x74 ∷ 0x63 ∷ []
-unfolding rotate1 rotate sboxes sbox γ π τ byCount forwardWords forward4 forward6 forward8 forward start eightWords times register constants registerT lastWord roundKey encryptionKey byWords pathRound after steps encryptBlock wordsOf bytesOf encryptBytes encryptBy byPaths xorBytes shiftLeft double blockCount lastBlock messageBlock chain cmac zeros be markBlock keyMark
+unfolding rotate1 rotate sboxes sbox γ π τ byCount forwardWords forward4 forward6 forward8 forward start eightWords times register constants registerT lastWord roundKey encryptionKey byWords afterBy steps encryptBlock wordsOf bytesOf encryptBytes encryptBy byPaths xorBytes shiftLeft double blockCount lastBlock messageBlock chain cmac zeros be markBlock keyMark
 own-mark = refl
 
 other-mark : keyMark (byPaths 4 0 0 exchanged) 2 4 0x5a04 ≡ 0x3b ∷ 0x5a ∷ 0x0e ∷ 0x51 ∷ 0xac ∷ 0x7c ∷ []
-unfolding exchanged rotate1 rotate sboxes sbox γ π τ byCount forwardWords forward4 forward6 forward8 forward start eightWords times register constants registerT lastWord roundKey encryptionKey byWords pathRound after steps encryptBlock wordsOf bytesOf encryptBytes encryptBy byPaths xorBytes shiftLeft double blockCount lastBlock messageBlock chain cmac zeros be markBlock keyMark
+unfolding exchanged rotate1 rotate sboxes sbox γ π τ byCount forwardWords forward4 forward6 forward8 forward start eightWords times register constants registerT lastWord roundKey encryptionKey byWords afterBy steps encryptBlock wordsOf bytesOf encryptBytes encryptBy byPaths xorBytes shiftLeft double blockCount lastBlock messageBlock chain cmac zeros be markBlock keyMark
 other-mark = refl
 
 blanked : blanking firstPair (zeros 432) 2 4 0x5a04 ≡ outcome (Accepted 0) strangersSheet
@@ -82,7 +89,7 @@ unfolding slots number zeros be firstEight serialHeader blankHeader blankSlots b
 two-slots = refl
 
 answers : replies (turnModel (λ k′. keyRefusal k′ strangersSheet)) sevenTurns (newModel (slots strangersSheet))
-    ≡ answered 0 ∷ answered 1 ∷ answered 2 ∷ answered 5 ∷ answered 14 ∷ answered 0 ∷ answered 0 ∷ []
+    ≡ says 0 ∷ says 1 ∷ says 2 ∷ says 5 ∷ says 14 ∷ says 0 ∷ says 0 ∷ []
 unfolding replies turnModel modelStep newModel answered
 answers = rw (two-slots, number-1, number-2, number-5, number-14)
 
@@ -94,12 +101,20 @@ own-count : (finally modelStep (ownCalls sevenTurns) (newModel (slots strangersS
 unfolding finally ownCalls modelStep newModel
 own-count = rw two-slots
 
-pub strangers-met : StrangersMet strangersSheet
-unfolding ownCalls exchanged
+blanked-number : (blanking firstPair (zeros 432) 2 4 0x5a04) .number ≡ 0
+unfolding outcome answerNumber
+blanked-number = ap (λ (o : Outcome). o .number) blanked
+
+blanked-bytes : (blanking firstPair (zeros 432) 2 4 0x5a04) .bytes ≡ strangersSheet
+unfolding outcome
+blanked-bytes = ap (λ (o : Outcome). o .bytes) blanked
+
+strangers-met : StrangersMet strangersSheet
+unfolding ownCalls exchanged answerNumber answerLength
 strangers-met =
     record {
-      blanked = blanked;
-      sheet = premises .blanking-serves firstPair (zeros 432) 2 4 0x5a04 strangersSheet (zeros-bytes 8) (ones-bytes 8) (omega arith) blanked;
+      blanked = gives (Accepted 0) strangersSheet blanked;
+      sheet = subst (ByBlanking firstPair) blanked-bytes (premises .blanking-serves firstPair (zeros 432) 2 4 0x5a04 (zeros-bytes 8) (ones-bytes 8) (omega arith) blanked-number);
       captions = Claim.write (more (lit< tt) none) (Claim.clear (Claim.write (more (lit< tt) none) Claim.none));
       each = each;
       answers = answers;
@@ -108,3 +123,41 @@ strangers-met =
       mark = own-mark;
       exchanged = other-mark;
     }
+
+-- ---- the model
+
+model-run : ModelRun
+unfolding zeros replies finally newModel page answered modelStep
+model-run = record { answers = refl; first = refl; second = refl; count = refl; worn = refl }
+
+-- ---- two writes to a sheet that nears its last
+
+first-write : (p : ℕ) → turnStep p keys (own (writes 0 abc)) nearlyWorn ≡ (says 0, wornOne)
+first-write p = turn-write p keys 0 abc nearlyWorn ∙ ap (λ (o : Outcome). stepped o) (exhibits .last-written)
+
+second-write : (p : ℕ) → turnStep p keys (own (writes 0 abc)) wornOne ≡ (says 8, wornOne)
+second-write p = turn-write p keys 0 abc wornOne ∙ ap (λ (o : Outcome). stepped o) (exhibits .worn)
+
+module _ (p : ℕ) where
+  step : Turn → List ℕ → Reply × List ℕ
+  step = turnStep p keys
+
+  write : Turn
+  write = own (writes 0 abc)
+
+  two-answers : replies step (write ∷ write ∷ []) nearlyWorn ≡ says 0 ∷ says 8 ∷ []
+  unfolding step write replies
+  two-answers =
+      ap (λ (r : Reply × List ℕ). r .0 ∷ replies step (write ∷ []) (r .1)) (first-write p)
+      ∙ ap (λ (r : Reply × List ℕ). says 0 ∷ r .0 ∷ []) (second-write p)
+
+  left-after : finally step (write ∷ write ∷ []) nearlyWorn ≡ wornOne
+  unfolding step write finally
+  left-after = ap (λ (r : Reply × List ℕ). finally step (write ∷ []) (r .1)) (first-write p) ∙ ap (λ (r : Reply × List ℕ). r .1) (second-write p)
+
+worn-run : WornRun
+unfolding step write
+worn-run = record { answers = two-answers; after = left-after }
+
+pub witnesses : Witnesses
+witnesses = record { model = model-run; worn = worn-run; strangers = strangers-met }

@@ -1,0 +1,24 @@
+-- The encryption keys of one key, as the second program prints them (`reference vectors keys`, t = 4).
+use mathlib.Core.Path.{_≡_}
+use mathlib.Core.List.{List, [], _∷_, map}
+use Prim.Native.Nat.{ℕ}
+use Rattle.schedule.specs.Schedule.{encryptionKey}
+
+pub record KeyVectors : Type 0 where
+  -- of rounds 0 to 12
+  pub thirteen :
+      map (encryptionKey (0x5471 ∷ 0x8eab ∷ 0xc8e5 ∷ 0x021f ∷ [])) (0 ∷ 1 ∷ 2 ∷ 3 ∷ 4 ∷ 5 ∷ 6 ∷ 7 ∷ 8 ∷ 9 ∷ 10 ∷ 11 ∷ 12 ∷ [])
+      ≡ (0x3eab ∷ 0xc4e5 ∷ 0x020f ∷ 0x547f ∷ [])
+      ∷ (0x58e5 ∷ 0x011f ∷ 0xa3da ∷ 0x8ea7 ∷ [])
+      ∷ (0x621f ∷ 0xac8a ∷ 0x750c ∷ 0xc8eb ∷ [])
+      ∷ (0x638a ∷ 0x7e5c ∷ 0x475e ∷ 0x021e ∷ [])
+      ∷ (0x355c ∷ 0x4c2e ∷ 0x1078 ∷ 0xa38e ∷ [])
+      ∷ (0x272e ∷ 0x1cf8 ∷ 0x1c95 ∷ 0x7558 ∷ [])
+      ∷ (0x00f8 ∷ 0x1055 ∷ 0xaa13 ∷ 0x4723 ∷ [])
+      ∷ (0x5c55 ∷ 0xa5e3 ∷ 0x3952 ∷ 0x10f8 ∷ [])
+      ∷ (0x0ae3 ∷ 0x3e72 ∷ 0x8730 ∷ 0x1c5a ∷ [])
+      ∷ (0xe972 ∷ 0x8ac0 ∷ 0xe218 ∷ 0xaae1 ∷ [])
+      ∷ (0x77c0 ∷ 0xe0a8 ∷ 0x576d ∷ 0x3976 ∷ [])
+      ∷ (0xb2a8 ∷ 0x591d ∷ 0xcb51 ∷ 0x87ca ∷ [])
+      ∷ (0xb71d ∷ 0xc791 ∷ 0x3e84 ∷ 0xe2ac ∷ [])
+      ∷ []

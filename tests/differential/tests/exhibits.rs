@@ -1,0 +1,177 @@
+//! The bytes of the calls that are exhibited in proofs, made again by the second
+//! program: what `crates/exhibits/specs/Values.antt` and the records of blocks,
+//! round keys, rounds, CMAC and the bench call its values are its values.
+
+use differential::report;
+use reference::cipher::sealing_key;
+use reference::{bench_block, blank, cmac, decrypt_block, encrypt_block, read, store_field, write};
+
+const SEALING: [u8; 8] = [0x0d, 0x2a, 0x47, 0x64, 0x81, 0x9e, 0xbb, 0xd8];
+const CHECKING: [u8; 8] = [0x54, 0x71, 0x8e, 0xab, 0xc8, 0xe5, 0x02, 0x1f];
+const ABC: &[u8] = b"abc";
+
+/// A file of a crate's specs.
+struct Specs {
+    path: String,
+    text: String,
+}
+
+impl Specs {
+    fn of(path: &str) -> Specs {
+        let path = format!("{}/../../crates/{path}", env!("CARGO_MANIFEST_DIR"));
+        let text = std::fs::read_to_string(&path).expect("a file of specs");
+        Specs { path, text }
+    }
+
+    /// The numbers in hex that stand between the text `from` and the next `to`.
+    fn numbers(&self, from: &str, to: &str) -> Vec<u64> {
+        let start = self
+            .text
+            .find(from)
+            .unwrap_or_else(|| panic!("{}: no {from}", self.path));
+        let rest = &self.text[start + from.len()..];
+        let end = rest.find(to).unwrap_or(rest.len());
+        rest[..end]
+            .split("0x")
+            .skip(1)
+            .map(|word| {
+                let digits: String = word.chars().take_while(char::is_ascii_hexdigit).collect();
+                u64::from_str_radix(&digits, 16).expect("a number in hex")
+            })
+            .collect()
+    }
+
+    /// The bytes of a definition `NAME = ...`.
+    fn bytes(&self, name: &str) -> Vec<u8> {
+        let numbers = self.numbers(&format!("\n{name} ="), "\n\n");
+        numbers.into_iter().map(|number| number as u8).collect()
+    }
+
+    /// The bytes at the end of a field `NAME : ... ≡ ...`.
+    fn made(&self, field: &str) -> Vec<u8> {
+        let numbers = self.numbers(&format!("pub {field} :"), "}");
+        numbers.into_iter().map(|number| number as u8).collect()
+    }
+}
+
+/// A sheet of edition 1 with one blank slot, t = 4 and the last number w.
+fn one_slot(w: u32) -> Vec<u8> {
+    let mut sheet = vec![0, 1, 4, 1];
+    sheet.extend(w.to_be_bytes());
+    sheet.resize(216, 0);
+    sheet
+}
+
+fn key(size: usize) -> Vec<u8> {
+    (0..size).map(|i| (13 + 29 * i) as u8).collect()
+}
+
+#[test]
+fn sheets() {
+    let values = Specs::of("exhibits/specs/Values.antt");
+    assert_eq!(values.bytes("sealingKey"), SEALING);
+    assert_eq!(values.bytes("checkingKey"), CHECKING);
+
+    let mut written = one_slot(0);
+    assert_eq!(write(&SEALING, &CHECKING, &mut written, 0, ABC).number, 0);
+    assert_eq!(values.bytes("abcMark"), written[16..24]);
+    assert_eq!(values.bytes("abcField"), written[24..]);
+
+    let mut plain = [0; 192];
+    plain[..3].copy_from_slice(ABC);
+    let mut two = one_slot(0);
+    assert_eq!(
+        store_field(&SEALING, &CHECKING, &mut two, 0, 2, &plain).number,
+        0
+    );
+    assert_eq!(values.bytes("twoMark"), two[16..24]);
+    assert_eq!(two[24..], written[24..]);
+
+    let mut changed = written.clone();
+    changed[23] ^= 1;
+    assert_eq!(values.bytes("checkChanged"), changed[16..24]);
+    let mut window = [7; 192];
+    let pointed = |sheet: &[u8], window: &mut [u8]| {
+        let answer = read(&SEALING, &CHECKING, sheet, 0, window);
+        (answer.number, answer.rule, answer.slot, answer.place)
+    };
+    assert_eq!(pointed(&changed, &mut window), (10, 10, 0, 0));
+    assert_eq!(pointed(&two, &mut window), (10, 11, 0, 2));
+
+    let mut worn = one_slot(u32::MAX - 1);
+    assert_eq!(write(&SEALING, &CHECKING, &mut worn, 0, ABC).number, 0);
+    assert_eq!(values.bytes("lastMark"), worn[16..24]);
+    assert_eq!(values.bytes("lastField"), worn[24..]);
+    assert_eq!(write(&SEALING, &CHECKING, &mut worn, 0, ABC).number, 8);
+
+    let mut blanked = vec![7; 224];
+    assert_eq!(
+        blank(&mut blanked, 1, 4, 258, &SEALING, &CHECKING).number,
+        0
+    );
+    assert_eq!(values.bytes("newSheet"), blanked[10..16]);
+
+    let mut out = [0; 8];
+    assert_eq!(cmac(&SEALING, ABC, &mut out).number, 0);
+    assert_eq!(values.bytes("abcCheck"), out);
+    assert_eq!(
+        bench_block(&CHECKING, 1, &values.bytes("wanted"), &mut out).number,
+        0
+    );
+    assert_eq!(values.bytes("leading"), out);
+    report("exhibits: sheets, a check and a bench");
+}
+
+#[test]
+fn calls_with_a_key_of_each_size() {
+    let blocks = Specs::of("mcrypton/specs/Vectors.antt");
+    let calls = Specs::of("mcrypton/specs/Refusals.antt");
+    let macs = Specs::of("modes/specs/Refusals.antt");
+    let block = blocks.bytes("block");
+    for (t, size) in [(4, 8), (6, 12), (8, 16)] {
+        let key = key(size);
+        assert_eq!(blocks.bytes(&format!("key{t}")), key);
+        let mut out = [0; 8];
+        assert_eq!(encrypt_block(&key, &block, &mut out).number, 0);
+        assert_eq!(calls.made(&format!("encrypt-{t}")), out);
+        assert_eq!(decrypt_block(&key, &block, &mut out).number, 0);
+        assert_eq!(calls.made(&format!("decrypt-{t}")), out);
+        assert_eq!(cmac(&key, &[1, 2, 3, 4, 5, 6, 7, 8, 9], &mut out).number, 0);
+        assert_eq!(macs.made(&format!("mac-{t}")), out);
+    }
+    let mut out = [0; 8];
+    assert_eq!(cmac(&key(8), &[], &mut out).number, 0);
+    assert_eq!(macs.made("empty"), out);
+
+    let bench = Specs::of("chip_bench/specs/Laws.antt");
+    for (size, round) in [(8, 0), (12, 5), (16, 12)] {
+        assert_eq!(bench_block(&key(size), round, &block, &mut out).number, 0);
+        assert_eq!(bench.made(&format!("round-{round}")), out);
+    }
+    report("exhibits: blocks, CMAC and the bench with keys of 8, 12 and 16 bytes");
+}
+
+#[test]
+fn round_keys_and_rounds() {
+    let keys: Vec<u64> = (0..=12)
+        .flat_map(|r| sealing_key(&CHECKING, r).expect("a round"))
+        .map(u64::from)
+        .collect();
+    let schedule = Specs::of("schedule/specs/Vectors.antt");
+    assert_eq!(schedule.numbers("\n      ≡ ", "\n      ∷ []"), keys);
+
+    let block = [0x63, 0x98, 0xcd, 0x02, 0x37, 0x6c, 0xa1, 0xd6];
+    let after = |r| {
+        let array = reference::bench::array_after(&CHECKING, &block, r).expect("an array");
+        array
+            .as_chunks::<2>()
+            .0
+            .iter()
+            .map(|&pair| u64::from(u16::from_be_bytes(pair)))
+            .collect::<Vec<u64>>()
+    };
+    let rounds = Specs::of("rounds/specs/Vectors.antt");
+    let all: Vec<u64> = [&keys[4..], &after(0), &after(12)].concat();
+    assert_eq!(rounds.numbers("roundsWith\n", "the end"), all);
+    report("exhibits: 13 round keys and 12 rounds");
+}
