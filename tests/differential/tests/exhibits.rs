@@ -173,5 +173,17 @@ fn round_keys_and_rounds() {
     let rounds = Specs::of("rounds/specs/Vectors.antt");
     let all: Vec<u64> = [&keys[4..], &after(0), &after(12)].concat();
     assert_eq!(rounds.numbers("roundsWith\n", "the end"), all);
-    report("exhibits: 13 round keys and 12 rounds");
+
+    // On the way every entry of every S-box is looked up: that of row j, column i
+    // is in the box with index (i + j) mod 4.
+    let mut looked_up = [[false; 16]; 4];
+    for r in 0..12 {
+        for (j, row) in after(r).iter().enumerate() {
+            for i in 0..4 {
+                looked_up[(i + j) % 4][(row >> (12 - 4 * i) & 15) as usize] = true;
+            }
+        }
+    }
+    assert_eq!(looked_up, [[true; 16]; 4]);
+    report("exhibits: 13 round keys and 12 rounds, with all 64 entries of the S-boxes");
 }
