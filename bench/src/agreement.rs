@@ -17,7 +17,11 @@ pub fn check_baseline() -> u64 {
 }
 
 fn check_style<S: Style + Conversions>(random: &mut Random) -> u64 {
-    cmacs::<S>(random) + sheets::<S>(random) + layouts::<S>(random) + conversions::<S>()
+    cmacs::<S>(random)
+        + panels::<S>(random)
+        + sheets::<S>(random)
+        + layouts::<S>(random)
+        + conversions::<S>()
 }
 
 type BlockCall = fn(&[u8], &[u8], &mut [u8]) -> Answer;
@@ -72,6 +76,24 @@ fn cmacs<S: Style>(random: &mut Random) -> u64 {
             reference::cmac(&key, &message, &mut outs[1]);
             assert_eq!(outs[0], outs[1], "CMAC of {length} bytes");
             compared += 1;
+        }
+    }
+    compared
+}
+
+fn panels<S: Style>(random: &mut Random) -> u64 {
+    let mut compared = 0;
+    for key in [7, 8, 12, 16, 17] {
+        for length in (0..=300).chain([65_535, 65_536, 65_537]) {
+            for (first, longer) in [(0, 0), (0u64.wrapping_sub(9), 0), (u64::MAX, 1)] {
+                let (key, panel) = (random.bytes(key), random.bytes(length));
+                let mut outs = [vec![5; length + longer], vec![5; length + longer]];
+                let ours = baseline::panel::<S>(&key, first, &panel, &mut outs[0]);
+                let theirs = reference::panel::panel(&key, first, &panel, &mut outs[1]);
+                assert_eq!(ours, theirs, "panel of {length} bytes");
+                assert!(outs[0] == outs[1], "panel of {length} bytes");
+                compared += 1;
+            }
         }
     }
     compared

@@ -290,6 +290,8 @@ pub trait Style {
     fn decrypt<R: Register>(key: R, block: u64) -> u64;
     /// CBC of a field, from the block that its first is chained to.
     fn decrypt_field<R: Register>(key: R, before: u64, field: &[u8], window: &mut [u8]);
+    /// CTR of a panel, from its first counter.
+    fn seal_panel<R: Register>(key: R, first: u64, panel: &[u8], out: &mut [u8]);
     /// Whether length and zeros of a written mark, its bytes 4 to 7, are fit.
     fn lengths_fit(rest: u32) -> bool;
 }
@@ -326,6 +328,14 @@ impl Style for Looped {
     }
 
     #[inline(always)]
+    fn seal_panel<R: Register>(key: R, mut counter: u64, panel: &[u8], out: &mut [u8]) {
+        for (block, out) in panel.chunks(8).zip(out.chunks_mut(8)) {
+            add(block, Self::encrypt(key, counter), out);
+            counter = counter.wrapping_add(1);
+        }
+    }
+
+    #[inline(always)]
     fn lengths_fit(rest: u32) -> bool {
         (rest >> 16) as u16 <= FIELD as u16 && rest as u16 == 0
     }
@@ -358,6 +368,22 @@ impl Style for SameIdeas {
     }
 
     #[inline(always)]
+    fn seal_panel<R: Register>(key: R, mut counter: u64, panel: &[u8], out: &mut [u8]) {
+        let mut states = [[0; 4]; WALK];
+        for (part, out) in panel.chunks(8 * WALK).zip(out.chunks_mut(8 * WALK)) {
+            let states = &mut states[..part.len().div_ceil(8)];
+            for state in &mut *states {
+                *state = words(counter);
+                counter = counter.wrapping_add(1);
+            }
+            encrypt_all(black_box(key), states);
+            for ((block, out), state) in part.chunks(8).zip(out.chunks_mut(8)).zip(states) {
+                add(block, number(*state), out);
+            }
+        }
+    }
+
+    #[inline(always)]
     fn lengths_fit(rest: u32) -> bool {
         rest <= (FIELD as u32) << 16 && rest as u16 == 0
     }
@@ -380,6 +406,41 @@ fn decrypt_all<R: Register>(key: R, states: &mut [Words]) {
     }
     for a in states {
         *a = phi(*a);
+    }
+}
+
+/// Blocks of a panel that share a walk of the register.
+const WALK: usize = 32;
+
+/// Blocks encrypted in one walk of the register.
+#[inline(always)]
+fn encrypt_all<R: Register>(key: R, states: &mut [Words]) {
+    let mut register = key;
+    let first = round_key(register, CONSTANTS[0]);
+    for a in &mut *states {
+        *a = xor(*a, first);
+    }
+    for constant in &CONSTANTS[1..] {
+        register = register.forward();
+        let key = round_key(register, *constant);
+        for a in &mut *states {
+            *a = xor(mixed(&ENCRYPTING, 0, *a), key);
+        }
+    }
+    for a in states {
+        *a = phi(*a);
+    }
+}
+
+/// A block, or the part of one, added to the leading bytes of a key block.
+#[inline(always)]
+fn add(block: &[u8], key_block: u64, out: &mut [u8]) {
+    if block.len() == 8 {
+        out.copy_from_slice(&(load(block) ^ key_block).to_be_bytes());
+        return;
+    }
+    for ((out, byte), key_byte) in out.iter_mut().zip(block).zip(key_block.to_be_bytes()) {
+        *out = byte ^ key_byte;
     }
 }
 
@@ -465,6 +526,34 @@ pub fn cmac<S: Style>(key: &[u8], message: &[u8], out: &mut [u8]) -> Answer {
         S,
         key.len(),
         whole(key, message, out),
+        Answer::refused(WRONG_KEY)
+    )
+}
+
+// ---- A panel ----
+
+const PANEL: usize = 65536;
+
+pub fn panel<S: Style>(key: &[u8], first: u64, panel: &[u8], out: &mut [u8]) -> Answer {
+    fn whole<S: Style, R: Register>(
+        key: &[u8],
+        first: u64,
+        panel: &[u8],
+        out: &mut [u8],
+    ) -> Answer {
+        if out.len() != panel.len() {
+            return Answer::refused(WRONG_SPAN);
+        }
+        if panel.len() > PANEL {
+            return Answer::refused(OVERLONG);
+        }
+        S::seal_panel(R::of_key(key), first, panel, out);
+        Answer::accepted(0)
+    }
+    by_key_length!(
+        S,
+        key.len(),
+        whole(key, first, panel, out),
         Answer::refused(WRONG_KEY)
     )
 }

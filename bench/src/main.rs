@@ -49,6 +49,7 @@ fn measure(meter: &mut Meter) {
     let mut random = Random::of_part(901);
     blocks(meter, &mut random);
     cmacs(meter, &mut random);
+    panels(meter, &mut random);
     sheets(meter, &mut random);
     conversions(meter, &mut random);
 }
@@ -170,6 +171,53 @@ The library encrypts here by its path of words alone, as it does in sheets.",
                 &row.ratio_cell(0, 1),
                 &row.ratio_cell(0, 2),
                 &row.instructions(0, 1),
+            ]);
+        }
+    }
+}
+
+// ---- Panels ----
+
+type PanelCall = fn(&[u8], u64, &[u8], &mut [u8]) -> Answer;
+
+fn panels(meter: &mut Meter, random: &mut Random) {
+    meter.head(
+        "Panels: ns for each byte of the panel",
+        "\
+Counter mode, from a number whose panel of 65536 bytes crosses the wrap. The library and
+the same ideas in Rust encrypt up to 32 counter blocks in one walk of the register.",
+        "Panel bytes | Key bits | Library | Baseline | Same ideas in Rust | Ratio | To same ideas | Instructions | Second program",
+    );
+    let calls: [PanelCall; 4] = [
+        library::panel,
+        baseline::panel::<Looped>,
+        baseline::panel::<SameIdeas>,
+        reference::panel::panel,
+    ];
+    for length in [8, 192, 4096, 65_536] {
+        for t in CLASSES {
+            let (key, panel) = (random.bytes(2 * t), random.bytes(length));
+            let (key, panel) = (&key[..], &panel[..]);
+            let row = meter.row(Vec::from(calls.map(|call| {
+                let mut out = vec![0; length];
+                timed(move || {
+                    let (key, first, panel) = black_box((key, 0u64.wrapping_sub(4096), panel));
+                    call(key, first, panel, black_box(&mut out))
+                })
+            })));
+            if length == 65_536 {
+                meter.aim(Aims::Panels, row.ratio(0, 1));
+            }
+            meter.print(&[
+                &length.to_string(),
+                &(16 * t).to_string(),
+                &figure(row.nanoseconds(0) / length as f64),
+                &figure(row.nanoseconds(1) / length as f64),
+                &figure(row.nanoseconds(2) / length as f64),
+                &row.ratio_cell(0, 1),
+                &row.ratio_cell(0, 2),
+                &row.instructions(0, 1),
+                &figure(row.nanoseconds(3) / length as f64),
             ]);
         }
     }

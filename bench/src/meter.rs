@@ -11,6 +11,7 @@ pub enum Aims {
     DatedReads,
     Writes,
     Cmac,
+    Panels,
     Blocks,
     Layout,
     Conversions,
@@ -18,11 +19,12 @@ pub enum Aims {
 }
 
 /// The most that the library is to take of the baseline's time.
-const AIMS: [(Aims, &str, f64); 7] = [
+const AIMS: [(Aims, &str, f64); 8] = [
     (Aims::Reads, "read", 0.70),
     (Aims::DatedReads, "dated read", 0.70),
     (Aims::Writes, "write", 0.85),
     (Aims::Cmac, "CMAC", 0.85),
+    (Aims::Panels, "panel of 65536 bytes", 0.80),
     (Aims::Blocks, "block calls with 0xffff", 0.95),
     (Aims::Layout, "layout test", 1.00),
     (Aims::Conversions, "conversion", 1.00),

@@ -1,9 +1,9 @@
 //! Second program for mCrypton caption sheets.
 //!
 //! It is written from documents 01 (the scope) and 02 (the change requests, of
-//! them requests 1 to 7), document 000 (the mCrypton paper) and the NIST
-//! standards SP 800-38A (CBC) and SP 800-38B (CMAC) alone, to be read beside
-//! them and compared with, not to be fast.
+//! them requests 1 to 8), document 000 (the mCrypton paper) and the NIST
+//! standards SP 800-38A (CBC, CTR) and SP 800-38B (CMAC) alone, to be read
+//! beside them and compared with, not to be fast.
 //!
 //! Every public function is total: it takes slices of any length and numbers
 //! of any size, and never panics.
@@ -18,6 +18,7 @@ pub mod faults;
 pub mod keys;
 pub mod listing;
 pub mod modes;
+pub mod panel;
 pub mod sheet;
 pub mod terms;
 pub mod vectors;
@@ -30,6 +31,7 @@ pub use faults::{first_fault, Fault};
 pub use keys::{key_mark, key_refusal};
 pub use listing::listing;
 pub use modes::cmac;
+pub use panel::{panel, panel_blocks};
 pub use sheet::{blank, clear, fit, read, store_field, write};
 pub use terms::{dated_read, terms_fit};
 
@@ -137,8 +139,8 @@ impl From<u8> for Refusal {
 pub const WRONG_KEY: u8 = 1;
 /// Sealing and checking key are equal (read, write, blanking).
 pub const TWIN_KEYS: u8 = 2;
-/// A block, wanted array, output, window or buffer has the wrong length;
-/// blanking: n isn't 1 to 256.
+/// A block, wanted array, output, window or buffer has the wrong length (a
+/// panel's output another than the panel); blanking: n isn't 1 to 256.
 pub const WRONG_SPAN: u8 = 3;
 /// The sheet is shorter than its header or breaks a rule of the layout; the
 /// term sheet has another n, another length or a day above 36524.
@@ -147,7 +149,7 @@ pub const UNFIT_SHEET: u8 = 4;
 pub const OTHER_KEY_CLASS: u8 = 5;
 /// The slot is n or more.
 pub const NO_SUCH_SLOT: u8 = 6;
-/// The caption is above 192 bytes.
+/// The caption is above 192 bytes, or the panel above 65536.
 pub const OVERLONG: u8 = 7;
 /// A write with w = 4294967295.
 pub const WORN: u8 = 8;

@@ -1,23 +1,58 @@
-//! Prints vectors, the arrays after each round of a block, every date, or the
-//! listing or the first fault of a sheet on standard input.
+//! Prints vectors, the arrays after each round of a block, every date, the
+//! listing or the first fault of a sheet on standard input, or a panel sealed.
 
 use reference::faults::fault_line;
 use reference::listing::MOST_BYTES;
-use reference::{calendar, listing, vectors};
-use std::io::{stdin, stdout, Read, Result, Write};
+use reference::panel::{panel, MOST_PANEL_BYTES};
+use reference::{calendar, listing, vectors, OVERLONG};
+use std::io::{self, stderr, stdin, stdout, Error, Read, Write};
 use std::process::ExitCode;
 
 const USAGE: &str = "\
-usage: reference vectors blocks|keys|bench|cmac|steps|cbc|marks|sheet|faults
+usage: reference vectors blocks|keys|bench|cmac|steps|cbc|panel|marks|sheet|faults
        reference rounds KEY BLOCK
        reference dates
        reference list < sheet
        reference fault < sheet
+       reference panel KEY FIRST < panel
 ";
 
-/// Exit statuses: a wrong command line, and input or output that failed.
-const WRONG_USAGE: u8 = 64;
-const FAILED: u8 = 74;
+/// Why a command fails: a wrong command line, an overlong panel, or input or
+/// output that failed.
+enum Failure {
+    Usage,
+    Overlong,
+    Io(Error),
+}
+
+impl Failure {
+    /// The exit status.
+    fn status(&self) -> u8 {
+        match self {
+            Failure::Usage => 64,
+            Failure::Overlong => 65,
+            Failure::Io(_) => 74,
+        }
+    }
+
+    /// What is printed on standard error.
+    fn text(&self) -> String {
+        match self {
+            Failure::Usage => USAGE.to_string(),
+            Failure::Overlong => "reference: overlong\n".to_string(),
+            Failure::Io(error) => format!("reference: {error}\n"),
+        }
+    }
+}
+
+impl From<Error> for Failure {
+    fn from(error: Error) -> Failure {
+        Failure::Io(error)
+    }
+}
+
+/// How a command ends.
+type Ended = Result<(), Failure>;
 
 fn main() -> ExitCode {
     let arguments: Vec<String> = std::env::args_os()
@@ -26,20 +61,16 @@ fn main() -> ExitCode {
         .collect();
     let words: Vec<&str> = arguments.iter().map(String::as_str).collect();
     match run(&words) {
-        Some(Ok(())) => ExitCode::SUCCESS,
-        Some(Err(error)) => {
-            let _ = writeln!(std::io::stderr(), "reference: {error}");
-            ExitCode::from(FAILED)
-        }
-        None => {
-            let _ = std::io::stderr().write_all(USAGE.as_bytes());
-            ExitCode::from(WRONG_USAGE)
+        Ok(()) => ExitCode::SUCCESS,
+        Err(failure) => {
+            let _ = stderr().write_all(failure.text().as_bytes());
+            ExitCode::from(failure.status())
         }
     }
 }
 
-/// Runs a command; none, and nothing printed, for a wrong command line.
-fn run(words: &[&str]) -> Option<Result<()>> {
+/// Runs a command; prints nothing for a wrong command line.
+fn run(words: &[&str]) -> Ended {
     let text = match words {
         ["vectors", "blocks"] => vectors::blocks(),
         ["vectors", "keys"] => vectors::keys(),
@@ -47,29 +78,49 @@ fn run(words: &[&str]) -> Option<Result<()>> {
         ["vectors", "cmac"] => vectors::cmacs(),
         ["vectors", "steps"] => vectors::steps(),
         ["vectors", "cbc"] => vectors::cbc(),
+        ["vectors", "panel"] => vectors::panels(),
         ["vectors", "marks"] => vectors::marks(),
         ["vectors", "sheet"] => vectors::sheet(),
         ["vectors", "faults"] => vectors::faults(),
-        ["rounds", key, block] => vectors::rounds(key, block)?,
+        ["rounds", key, block] => vectors::rounds(key, block).ok_or(Failure::Usage)?,
         ["dates"] => calendar::all_dates(),
-        ["list"] => return Some(print_of_sheet(listing)),
-        ["fault"] => return Some(print_of_sheet(|sheet| fault_line(sheet).into_bytes())),
-        _ => return None,
+        ["list"] => return print_of_sheet(listing),
+        ["fault"] => return print_of_sheet(|sheet| fault_line(sheet).into_bytes()),
+        ["panel", key, first] => return print_sealed(key, first),
+        _ => return Err(Failure::Usage),
     };
-    Some(print(text.as_bytes()))
+    print(text.as_bytes())
 }
 
-fn print(text: &[u8]) -> Result<()> {
+fn print(text: &[u8]) -> Ended {
     let mut out = stdout().lock();
     out.write_all(text)?;
-    out.flush()
+    Ok(out.flush()?)
+}
+
+/// Standard input, of which no more is read than one byte above `most`.
+fn input(most: usize) -> io::Result<Vec<u8>> {
+    let mut bytes = Vec::new();
+    let limit = most as u64 + 1;
+    stdin().lock().take(limit).read_to_end(&mut bytes)?;
+    Ok(bytes)
 }
 
 /// Prints what a sheet on standard input gives. Reads one byte more than the
 /// longest sheet has, which is enough to list it and to find its first fault.
-fn print_of_sheet(text: impl Fn(&[u8]) -> Vec<u8>) -> Result<()> {
-    let mut sheet = Vec::new();
-    let most = MOST_BYTES as u64 + 1;
-    stdin().lock().take(most).read_to_end(&mut sheet)?;
-    print(&text(&sheet))
+fn print_of_sheet(text: impl Fn(&[u8]) -> Vec<u8>) -> Ended {
+    print(&text(&input(MOST_BYTES)?))
+}
+
+/// Prints the panel on standard input sealed. Reads one byte more than the
+/// longest panel has, which is enough to find it overlong.
+fn print_sealed(key: &str, first: &str) -> Ended {
+    let (key, first) = vectors::panel_operands(key, first).ok_or(Failure::Usage)?;
+    let text = input(MOST_PANEL_BYTES)?;
+    let mut sealed = vec![0; text.len()];
+    match panel(&key, first, &text, &mut sealed).number {
+        0 => print(&sealed),
+        OVERLONG => Err(Failure::Overlong),
+        _ => Err(Failure::Usage),
+    }
 }

@@ -1,5 +1,5 @@
-//! CBC (NIST SP 800-38A, 6.2) and CMAC (NIST SP 800-38B, 6) over any 64-bit
-//! block function.
+//! CBC and CTR (NIST SP 800-38A, 6.2 and 6.5) and CMAC (NIST SP 800-38B, 6)
+//! over any 64-bit block function.
 
 use crate::cipher::{encrypt, Block, Register};
 use crate::{refuse_if, Answer, WRONG_KEY, WRONG_SPAN};
@@ -34,6 +34,22 @@ pub fn cbc_decrypt(ciph_inverse: BlockFunction, start: Block, ciphertext: &[Bloc
         previous = *c_j;
     }
     plaintext
+}
+
+/// CTR encryption, which is CTR decryption too: C_j = P_j ⊕ O_j, where O_j is
+/// CIPH(T_j). T_1 is the first counter block and each further one the number
+/// that follows, wrapping at 64 bits, high byte first. A last part block of u
+/// bits uses MSB_u(O_n), the leading bytes.
+pub fn ctr(ciph: BlockFunction, first: u64, text: &[u8]) -> Vec<u8> {
+    let mut t_j = first;
+    let mut output = Vec::new();
+    for p_j in text.chunks(8) {
+        let o_j = ciph(t_j.to_be_bytes());
+        // Stops where a part block ends.
+        output.extend(p_j.iter().zip(o_j).map(|(p, o)| p ^ o));
+        t_j = t_j.wrapping_add(1);
+    }
+    output
 }
 
 /// The constant R_b of a 64-bit block, b = 64 (SP 800-38B, 5.3).

@@ -5,6 +5,7 @@ use crate::cipher::{decrypt_block, encrypt, encrypt_block, opening_key, sealing_
 use crate::cipher::{Block, Register};
 use crate::keys::mark_block;
 use crate::modes::{cbc_decrypt, cbc_encrypt, cmac, cmac_steps};
+use crate::panel::panel;
 use crate::sheet::Edition;
 use crate::{blank, cipher, clear, key_mark, listing, read, write, Answer, Pointed};
 
@@ -194,6 +195,35 @@ fn cbc_both_ways(key: &[u8], n: usize, text: &[u8]) -> (Vec<u8>, Vec<u8>) {
     let encrypted = cbc_encrypt(&|block| encrypt(key, block), start, blocks);
     let decrypted = cbc_decrypt(&|block| cipher::decrypt(key, block), start, blocks);
     (encrypted.concat(), decrypted.concat())
+}
+
+/// The lengths of the panels.
+const PANEL_LENGTHS: [usize; 18] = [
+    0, 1, 7, 8, 9, 11, 16, 17, 31, 32, 33, 63, 64, 65, 191, 192, 193, 300,
+];
+
+/// t, first counter, length, sealed panel.
+pub fn panels() -> String {
+    let last = u64::MAX;
+    let mut lines = String::new();
+    for t in CLASSES {
+        for first in [0, 1, (1 << 32) - 1, last - 8191, last - 1, last] {
+            for length in PANEL_LENGTHS {
+                let mut sealed = vec![0; length];
+                panel(&key(t, t), first, &text(length, length), &mut sealed);
+                lines += &format!("{t} {first:016x} {length} {}\n", hex_or_dash(&sealed));
+            }
+        }
+    }
+    lines
+}
+
+/// The key and the first counter in hex digits; none unless they are a key's
+/// and a block's.
+pub fn panel_operands(key: &str, first: &str) -> Option<(Vec<u8>, u64)> {
+    let key = bytes_of_hex(key)?;
+    let first = Block::try_from(bytes_of_hex(first)?).ok()?;
+    Register::of_key(&key).map(|_| (key, u64::from_be_bytes(first)))
 }
 
 /// t, n, serial, sealing key, checking key, sealed block, CMAC of it, key mark.

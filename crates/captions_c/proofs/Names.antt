@@ -9,8 +9,12 @@ use denote.Ref.{RefT}
 use Rattle.octets.specs.Bytes.{zeros}
 use Rattle.octets.specs.Outcome as Blocks
 use Rattle.mcrypton.specs.Calls.{encrypting, decrypting}
+use Rattle.mcrypton.specs.Vectors.{key4}
 use Rattle.chip_bench.specs.Calls.{benching}
 use Rattle.modes.specs.Answers.{authenticating}
+use Rattle.panels.specs.Calls.{panelling}
+use Rattle.panels.specs.Laws.{bronzeAge}
+use Rattle.panels.proofs.Laws.{panels}
 use Rattle.captions.specs.Answers as Sheets
 use Rattle.captions.specs.Captions.{pair}
 use Rattle.captions.specs.Calls.{blanking, writing, clearing, reading}
@@ -30,6 +34,7 @@ use Rattle.captions_c.proofs.captions_encrypt_block.Reads as captions-e
 use Rattle.captions_c.proofs.captions_decrypt_block.Reads as captions-decrypt-block
 use Rattle.captions_c.proofs.captions_bench_block.Reads as captions-bench-block
 use Rattle.captions_c.proofs.captions_cmac.Reads as captions-cmac
+use Rattle.captions_c.proofs.captions_panel.Reads as captions-panel
 use Rattle.captions_c.proofs.captions_blank.Reads as captions-blank
 use Rattle.captions_c.proofs.captions_write.Reads as captions-write
 use Rattle.captions_c.proofs.captions_clear.Reads as captions-clear
@@ -73,6 +78,10 @@ Benches key round array out r after =
 abbrev pub Checks : List ℕ → List ℕ → List ℕ → Answer → List ℕ → Type 0
 Checks key message out r after = captions-cmac.Learnt three (lent key, (lent message, (lent out, tt))) r (lent key, (lent message, (lent after, tt)))
 
+abbrev pub SealsPanel : List ℕ → ℕ → List ℕ → List ℕ → Answer → List ℕ → Type 0
+SealsPanel key first panel out r after =
+    captions-panel.Learnt three (lent key, (first, (lent panel, (lent out, tt)))) r (lent key, (first, (lent panel, (lent after, tt))))
+
 abbrev pub Blanks : List ℕ → ℕ → ℕ → ℕ → List ℕ → List ℕ → Answer → List ℕ → Type 0
 Blanks sheet slots words serial sealing checking r after =
     captions-blank.Learnt three (lent sheet, (slots, (words, (serial, (lent sealing, (lent checking, tt)))))) r
@@ -113,6 +122,7 @@ pub record Equations : Type 0 where
   pub decrypt : (key b : List ℕ) (path : ℕ) (out : List ℕ) (r : Answer) (after : List ℕ) → Decrypts key b path out r after → crossed r after ≡ decrypting path key b out
   pub bench : (key : List ℕ) (round : ℕ) (array out : List ℕ) (r : Answer) (after : List ℕ) → Benches key round array out r after → crossed r after ≡ benching key round array out
   pub cmac : (key message out : List ℕ) (r : Answer) (after : List ℕ) → Checks key message out r after → crossed r after ≡ authenticating key message out
+  pub panel : (key : List ℕ) (first : ℕ) (x out : List ℕ) (r : Answer) (after : List ℕ) → SealsPanel key first x out r after → crossed r after ≡ panelling key first x out
   pub blank : (s : List ℕ) (n t v : ℕ) (sealing checking : List ℕ) (r : Answer) (after : List ℕ) → Blanks s n t v sealing checking r after
       → crossed r after ≡ plain (blanking (pair sealing checking) s n t v)
   pub write : (sealing checking s : List ℕ) (i : ℕ) (c : List ℕ) (r : Pointed) (after : List ℕ) → Writes sealing checking s i c r after
@@ -146,6 +156,10 @@ pub record Names : Type 0 where
   -- the CMAC of "abc", and an output of 7 bytes
   pub checks : (r : Answer) (after : List ℕ) → Checks sealingKey abc (zeros 8) r after → (r ≡ answer 0 0) × (after ≡ abcCheck)
   pub checks-not : (r : Answer) (after : List ℕ) → Checks sealingKey abc (zeros 7) r after → (r ≡ answer 3 0) × (after ≡ zeros 7)
+  -- a panel across the wrap, and a key of 9 bytes
+  pub seals-panel : (r : Answer) (after : List ℕ) → SealsPanel key4 0xffffffffffffffff bronzeAge (zeros 11) r after
+      → (r ≡ answer 0 0) × (after ≡ 0x3e ∷ 0x5b ∷ 0xf6 ∷ 0xb1 ∷ 0x9b ∷ 0x65 ∷ 0xdd ∷ 0x4e ∷ 0xe9 ∷ 0xf6 ∷ 0xf7 ∷ [])
+  pub seals-panel-not : (first : ℕ) (r : Answer) (after : List ℕ) → SealsPanel (zeros 9) first (zeros 65537) (replicate 7 5) r after → (r ≡ answer 1 0) × (after ≡ replicate 7 5)
   -- one slot, t = 4, serial 258; twin keys
   pub blanks : (r : Answer) (after : List ℕ) → Blanks (replicate 224 7) 1 4 258 sealingKey checkingKey r after → (r ≡ answer 0 0) × (after ≡ newSheet)
   pub blanks-not : (s : List ℕ) (r : Answer) (after : List ℕ) → Blanks s 1 4 258 sealingKey sealingKey r after → (r ≡ answer 2 0) × (after ≡ s)
@@ -197,6 +211,7 @@ equations =
       decrypt = λ key b path out r after h. h;
       bench = λ key round array out r after h. h;
       cmac = λ key message out r after h. h;
+      panel = λ key first x out r after h. h;
       blank = λ s n t v sealing checking r after h. h;
       write = λ sealing checking s i c r after h. h;
       clear = λ s i r after h. h;
@@ -218,6 +233,8 @@ names =
       benches-not = λ r after h. crossed-is r after _ (h ∙ exhibits .not-benched);
       checks = λ r after h. crossed-is r after _ (h ∙ exhibits .authenticated);
       checks-not = λ r after h. crossed-is r after _ (h ∙ exhibits .not-authenticated);
+      seals-panel = λ r after h. crossed-is r after _ (h ∙ panels .calls .wraps-4);
+      seals-panel-not = λ first r after h. crossed-is r after _ (h ∙ panels .calls .wrong-key first);
       blanks = λ r after h. crossed-is r after _ (h ∙ ap plain (exhibits .blanked));
       blanks-not = λ s r after h. crossed-is r after _ (h ∙ ap plain (exhibits .not-blanked s));
       writes = λ r after h. pointed-is r after _ (h ∙ exhibits .written);

@@ -6,6 +6,7 @@ ghost use Prim.Native.Nat.{ℕ};
 ghost use Rattle.mcrypton.specs.Calls.{blockOutcome, encrypting, decrypting};
 ghost use Rattle.chip_bench.specs.Calls.{benchOutcome, benching};
 ghost use Rattle.modes.specs.Answers.{macOutcome, authenticating};
+ghost use Rattle.panels.specs.Calls.{panelOutcome, panelling};
 ghost use Rattle.captions.specs.Answers.{outcome};
 ghost use Rattle.captions.specs.Captions.{pair};
 ghost use Rattle.captions.specs.Calls.{blanking, writing, clearing, reading};
@@ -71,6 +72,17 @@ fn mac_answer(a: modes::MacAnswer) -> Answer
         modes::MacAnswer::Accepted => numbered(0),
         modes::MacAnswer::WrongKey => numbered(1),
         modes::MacAnswer::WrongSpan => numbered(3),
+    }
+}
+
+fn panel_answer(a: panels::PanelAnswer) -> Answer
+    ensures { λ r. ⌜ ((x : List ℕ) → crossed r x ≡ panelOutcome a x) ⌝ }
+{
+    match a {
+        panels::PanelAnswer::Accepted => numbered(0),
+        panels::PanelAnswer::WrongKey => numbered(1),
+        panels::PanelAnswer::WrongSpan => numbered(3),
+        panels::PanelAnswer::Overlong => numbered(7),
     }
 }
 
@@ -158,6 +170,14 @@ pub extern "C" fn captions_cmac(key: &[u8], message: &[u8], out: &mut [u8]) -> A
 {
     let a = modes::cmac(key, message, out);
     mac_answer(a)
+}
+
+#[no_mangle]
+pub extern "C" fn captions_panel(key: &[u8], first: u64, panel: &[u8], out: &mut [u8]) -> Answer
+    ensures { λ r. ⌜ crossed r (now (out .exit)) ≡ panelling (now (key .entry)) first (now (panel .entry)) (now (out .entry)) ⌝ }
+{
+    let a = panels::panel(key, first, panel, out);
+    panel_answer(a)
 }
 
 #[no_mangle]

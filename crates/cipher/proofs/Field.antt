@@ -19,7 +19,7 @@ blocks-at zero s i h = absurd (omega arith)
 blocks-at (suc n) s zero h = refl
 blocks-at (suc n) s (suc i) h = let q : 8 * suc i ≡ 8 + 8 * i = omega arith in rw (q, ← drop-drop (8 * i) 8 s) (blocks-at n _ i (omega arith))
 
-map-at : (f : List ℕ → List ℕ) (b : List (List ℕ)) (i : ℕ) → i < length b → getD (map f b) i [] ≡ f (getD b i [])
+pub map-at : (f : List ℕ → List ℕ) (b : List (List ℕ)) (i : ℕ) → i < length b → getD (map f b) i [] ≡ f (getD b i [])
 map-at f [] i h = absurd (omega arith)
 map-at f (x ∷ b) zero h = refl
 map-at f (x ∷ b) (suc i) h = map-at f b i (omega arith)

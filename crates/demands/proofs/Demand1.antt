@@ -11,6 +11,8 @@ use Rattle.modes.specs.Refusals.{macClauses}
 use Rattle.modes.proofs.Refusals.{mac-refusals}
 use Rattle.chip_bench.specs.Laws.{benchClauses}
 use Rattle.chip_bench.proofs.Laws.{bench}
+use Rattle.panels.specs.Laws.{panelClauses}
+use Rattle.panels.proofs.Laws.{panels}
 use Rattle.calendar.specs.Calendar.{DayOutcome, DateOutcome, dayOfDate, dateOfDay}
 use Rattle.calendar.proofs.Laws.{calendar-laws}
 use Rattle.cipher.specs.Key.{keyBytes}
@@ -63,13 +65,14 @@ no-date n h =
 -- ---- the whole
 
 pub demand1 : Demand1
-unfolding NoZero blockClauses macClauses benchClauses writeClauses clearClauses readClauses blankClauses datedClauses keyBytes
+unfolding NoZero blockClauses macClauses benchClauses panelClauses writeClauses clearClauses readClauses blankClauses datedClauses keyBytes
 demand1 =
     record {
       encrypt-block = λ p k b out. decides ((λ e. omega (arith, e)), ((λ e. omega (arith, e)), tt)) (block-refusals .encrypt .exactly p k b out) (block-refusals .encrypt .refused p k b out);
       decrypt-block = λ p k b out. decides ((λ e. omega (arith, e)), ((λ e. omega (arith, e)), tt)) (block-refusals .decrypt .exactly p k b out) (block-refusals .decrypt .refused p k b out);
       cmac = λ k m out. decides ((λ e. omega (arith, e)), ((λ e. omega (arith, e)), tt)) (mac-refusals .exactly k m out) (mac-refusals .refused k m out);
       bench-block = λ k r wanted out. decides ((λ e. omega (arith, e)), ((λ e. omega (arith, e)), ((λ e. omega (arith, e)), tt))) (bench .exactly k r wanted out) (bench .refused k r wanted out);
+      panel = λ k first x out. decides ((λ e. omega (arith, e)), ((λ e. omega (arith, e)), ((λ e. omega (arith, e)), tt))) (panels .exactly k first x out) (panels .refused k first x out);
       blank-sheet = λ k s n t v. decides ((λ e. omega (arith, e)), ((λ e. omega (arith, e)), ((λ e. omega (arith, e)), ((λ e. omega (arith, e)), tt)))) (sheet-refusals .blank k s n t v) (sheet-refusals .refused-blank k s n t v);
       write = λ k s i c. decides ((λ e. omega (arith, e)), ((λ e. omega (arith, e)), ((λ e. omega (arith, e)), ((λ e. omega (arith, e)), ((λ e. omega (arith, e)), ((λ e. omega (arith, e)), ((λ e. omega (arith, e)), ((λ e. omega (arith, e)), tt)))))))) (sheet-refusals .write k s i c) (sheet-refusals .refused-write k s i c);
       clear = λ s i. decides ((λ e. omega (arith, e)), ((λ e. omega (arith, e)), tt)) (sheet-refusals .clear s i) (sheet-refusals .refused-clear s i);
@@ -81,6 +84,7 @@ demand1 =
       block-calls = block-refusals .calls;
       mac-calls = mac-refusals .calls;
       bench-calls = bench .calls;
+      panel-calls = panels .calls;
       sheet-calls = exhibits;
       sheets = sheet-refusals;
     }

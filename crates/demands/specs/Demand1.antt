@@ -13,6 +13,8 @@ use Rattle.modes.specs.Answers.{authenticating}
 use Rattle.modes.specs.Refusals.{MacCalls}
 use Rattle.chip_bench.specs.Calls.{benching}
 use Rattle.chip_bench.specs.Laws.{BenchCalls}
+use Rattle.panels.specs.Calls.{panelling}
+use Rattle.panels.specs.Laws.{PanelCalls}
 use Rattle.calendar.specs.Calendar.{dayOfDate, dateOfDay}
 use Rattle.calendar.specs.Laws.{IsDate}
 use Rattle.layout.specs.Layout.{editionOf, slots, keyClass, lastWrite}
@@ -97,6 +99,10 @@ pub record Demand1 : Type 0 where
   pub bench-block : (k : List ℕ) (r : ℕ) (wanted out : List ℕ)
       → Decides ((benching k r wanted out) .number) (wrongKey k ∷ (3 when ((length wanted ≡ 8) × (length out ≡ 8) → ⊥)) ∷ (13 when (12 < r)) ∷ [])
       (Blocks.Leaves (benching k r wanted out) out)
+  -- a panel x from the number first: 1 3 7
+  pub panel : (k : List ℕ) (first : ℕ) (x out : List ℕ)
+      → Decides ((panelling k first x out) .number) (wrongKey k ∷ (3 when (length out ≡ length x → ⊥)) ∷ (7 when (65536 < length x)) ∷ [])
+      (Blocks.Leaves (panelling k first x out) out)
   -- blanking with n slots, t and the serial v: 1 (keys or t) 2 3 5
   pub blank-sheet : (k : Keys) (s : List ℕ) (n t v : ℕ)
       → Decides ((blanking k s n t v) .number)
@@ -134,6 +140,7 @@ pub record Demand1 : Type 0 where
   pub block-calls : Blocks.BlockCalls
   pub mac-calls : MacCalls
   pub bench-calls : BenchCalls
+  pub panel-calls : PanelCalls
   pub sheet-calls : Exhibits
   -- and each number that a write, a clear and a blanking can answer is met, and each of a read but 0 and 10, which the calls above have
   pub sheets : SheetRefusals

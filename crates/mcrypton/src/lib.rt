@@ -178,7 +178,7 @@ pub fn decrypt_words(u: Register, b: [u16; 4]) -> [u16; 4]
 }
 
 // σ, a round and φ on each array of a list, in its place.
-fn sigma_all(k: [u16; 4], a: &mut [[u16; 4]])
+pub fn sigma_all(k: [u16; 4], a: &mut [[u16; 4]])
     ensures { λ _. ⌜ now (a .exit) ≡ map (σ k) (now (a .entry)) ⌝ }
 {
     let mut i = 0;
@@ -203,7 +203,7 @@ fn round_all(t: &[[u16; 16]; 4], k: [u16; 4], a: &mut [[u16; 4]])
     }
 }
 
-fn phi_all(a: &mut [[u16; 4]])
+pub fn phi_all(a: &mut [[u16; 4]])
     ensures { λ _. ⌜ now (a .exit) ≡ map φ (now (a .entry)) ⌝ }
 {
     let mut i = 0;

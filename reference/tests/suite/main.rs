@@ -21,6 +21,7 @@ mod layout;
 mod listing;
 mod marks;
 mod modes;
+mod panels;
 mod pointed;
 mod program;
 mod random;

@@ -1,10 +1,12 @@
-//! CBC and CMAC, with DES-EDE3 where the standards give vectors, with plain
-//! functions, and with mCrypton.
+//! CBC, CTR and CMAC, with DES-EDE3 where the standards or other programs give
+//! vectors, with plain functions, and with mCrypton.
 
 use crate::des::{ede_decrypt, ede_encrypt};
 use crate::random::Random;
 use crate::support::{cmac, decrypt, encrypt, hex, hex_block, CLASSES};
-use reference::modes::{cbc_decrypt, cbc_encrypt, cmac_subkeys, cmac_with};
+use crate::vectors::numbered_text;
+use reference::modes::{cbc_decrypt, cbc_encrypt, cmac_subkeys, cmac_with, ctr};
+use std::cell::RefCell;
 
 pub fn xor(a: [u8; 8], b: [u8; 8]) -> [u8; 8] {
     std::array::from_fn(|i| a[i] ^ b[i])
@@ -123,6 +125,123 @@ fn cbc_with_mcrypton_block_by_block_and_back() {
             }
             let opened = cbc_decrypt(&|block| decrypt(&key, block), start, &sealed);
             assert_eq!(opened, plain);
+        }
+    }
+}
+
+/// Lines of `ctr_des.py`, which pycryptodome seals, and of `ctr_des.c`, which
+/// libgcrypt and nettle seal alike: first counter, length, sealed text.
+const CTR_DES: &str = include_str!("../ctr_des.txt");
+
+const CTR_FIRSTS: [&str; 8] = [
+    "0000000000000000",
+    "0000000000000001",
+    "00000000ffffffff",
+    "00ffffffffffffff",
+    "ffffffffffffe000",
+    "fffffffffffffffb",
+    "fffffffffffffffe",
+    "ffffffffffffffff",
+];
+
+const CTR_LENGTHS: [usize; 14] = [0, 1, 7, 8, 9, 15, 16, 17, 24, 31, 63, 64, 65, 100];
+
+#[test]
+fn ctr_with_des_as_other_programs_do_it() {
+    let seal = |block| ede_encrypt([0x0123456789abcdef; 3], block);
+    let mut lines = CTR_DES.lines();
+    for first in CTR_FIRSTS {
+        let counter = u64::from_str_radix(first, 16).unwrap();
+        for length in CTR_LENGTHS {
+            let line = lines.next().unwrap();
+            let start = format!("{first} {length} ");
+            let sealed = hex(line.strip_prefix(&start).unwrap());
+            assert_eq!(sealed.len(), length);
+            let text = numbered_text(length, length);
+            assert_eq!(ctr(&seal, counter, &text), sealed);
+            assert_eq!(ctr(&seal, counter, &sealed), text);
+        }
+    }
+    assert_eq!(lines.next(), None);
+}
+
+/// First counters, and what three blocks of zeros and a part are sealed as with
+/// the identity: the counter blocks, with each carry that there is.
+#[test]
+fn ctr_of_zeros_with_the_identity_gives_the_counter_blocks() {
+    for (first, counters) in [
+        (
+            0,
+            "0000000000000000 0000000000000001 0000000000000002 000000",
+        ),
+        (
+            0xfe,
+            "00000000000000fe 00000000000000ff 0000000000000100 000000",
+        ),
+        (
+            0xffff,
+            "000000000000ffff 0000000000010000 0000000000010001 000000",
+        ),
+        (
+            0xffffffff,
+            "00000000ffffffff 0000000100000000 0000000100000001 000000",
+        ),
+        (
+            u64::MAX >> 1,
+            "7fffffffffffffff 8000000000000000 8000000000000001 800000",
+        ),
+        (
+            u64::MAX - 2,
+            "fffffffffffffffd fffffffffffffffe ffffffffffffffff 000000",
+        ),
+        (
+            u64::MAX - 1,
+            "fffffffffffffffe ffffffffffffffff 0000000000000000 000000",
+        ),
+        (
+            u64::MAX,
+            "ffffffffffffffff 0000000000000000 0000000000000001 000000",
+        ),
+    ] {
+        assert_eq!(ctr(&|block| block, first, &[0; 27]), hex(counters));
+    }
+}
+
+/// Every length of a last part block, with one key block for all counters.
+#[test]
+fn ctr_uses_the_leading_bytes_of_the_last_key_block() {
+    let key_block = hex_block("0102030405060708");
+    for length in 0..=24 {
+        let sealed = ctr(&|_| key_block, 5, &vec![0xf0; length]);
+        let leading: Vec<u8> = (0..length).map(|i| 0xf1 + (i % 8) as u8).collect();
+        assert_eq!(sealed, leading);
+    }
+}
+
+/// The forward function is asked once for each block, also for a part, and in
+/// the order of the counters.
+#[test]
+fn ctr_calls_the_cipher_once_for_each_block() {
+    let mut random = Random::new(26);
+    for (length, n) in [
+        (0, 0),
+        (1, 1),
+        (7, 1),
+        (8, 1),
+        (9, 2),
+        (16, 2),
+        (17, 3),
+        (200, 25),
+    ] {
+        for first in [0, u64::MAX - 1, random.next()] {
+            let inputs = RefCell::new(Vec::new());
+            let ciph = |block| {
+                inputs.borrow_mut().push(u64::from_be_bytes(block));
+                block
+            };
+            ctr(&ciph, first, &random.bytes(length));
+            let expected: Vec<u64> = (0..n).map(|i| first.wrapping_add(i)).collect();
+            assert_eq!(inputs.into_inner(), expected);
         }
     }
 }

@@ -1,6 +1,7 @@
 //! The program at a shell.
 
 use crate::edition::Edition;
+use crate::random::Random;
 use std::io::Write;
 use std::process::{Command, Output, Stdio};
 
@@ -34,6 +35,7 @@ fn the_program_prints_each_kind_of_vectors() {
         ("cmac", cmacs()),
         ("steps", steps()),
         ("cbc", cbc()),
+        ("panel", panels()),
         ("marks", marks()),
         ("sheet", sheet()),
         ("faults", faults()),
@@ -69,10 +71,8 @@ fn the_operands_of_rounds_are_taken_in_either_case() {
     assert!(rounds.iter().all(lower));
 }
 
-/// Each is tried as the key and as the block, with a fine other operand.
-#[test]
-fn wrong_operands_of_rounds_give_usage_and_status_64() {
-    let fine = "0123456789abcdef";
+/// What is neither a key nor eight bytes in hex digits.
+fn wrong_operands() -> Vec<String> {
     let mut wrong = [
         "",
         "-",
@@ -89,7 +89,14 @@ fn wrong_operands_of_rounds_give_usage_and_status_64() {
     .map(String::from)
     .to_vec();
     wrong.extend([1, 2, 14, 15, 17, 18, 22, 23, 25, 26, 30, 31, 33, 34, 528].map(digits));
-    for wrong in &wrong {
+    wrong
+}
+
+/// Each is tried as the key and as the block, with a fine other operand.
+#[test]
+fn wrong_operands_of_rounds_give_usage_and_status_64() {
+    let fine = "0123456789abcdef";
+    for wrong in &wrong_operands() {
         assert_wrong_usage(&["rounds", wrong, fine]);
         assert_wrong_usage(&["rounds", fine, wrong]);
     }
@@ -105,6 +112,61 @@ fn wrong_operands_of_rounds_give_usage_and_status_64() {
 /// A number of hex digits.
 fn digits(count: usize) -> String {
     "7".repeat(count)
+}
+
+#[test]
+fn the_program_seals_a_panel_and_opens_it() {
+    let (key, first) = ("0d2a4764819ebbd8f5122f4c", "fffffffffffffffe");
+    let key_bytes = crate::support::hex(key);
+    let mut random = Random::new(320);
+    for length in [0, 1, 7, 8, 9, 300, 65535, 65536] {
+        let text = random.bytes(length);
+        let mut expected = vec![0; length];
+        reference::panel(&key_bytes, u64::MAX - 1, &text, &mut expected);
+        let sealed = printed(&["panel", key, first], &text);
+        assert!(sealed == expected);
+        assert!(printed(&["panel", key, first], &sealed) == text);
+        let upper_case = [key.to_uppercase(), first.to_uppercase()];
+        assert!(printed(&["panel", &upper_case[0], &upper_case[1]], &text) == sealed);
+    }
+}
+
+#[test]
+fn the_program_takes_each_length_of_a_key_for_a_panel() {
+    for digits in [16, 24, 32] {
+        let key = "0".repeat(digits);
+        let mut block = [0; 8];
+        reference::encrypt_block(&vec![0; digits / 2], &[0, 0, 0, 0, 0, 0, 0, 1], &mut block);
+        let sealed = printed(&["panel", &key, "0000000000000001"], &[0; 8]);
+        assert_eq!(sealed, block);
+    }
+}
+
+#[test]
+fn an_overlong_panel_gives_status_65() {
+    for length in [65537, 65538, 131072, 1 << 20] {
+        let operands = ["panel", "0123456789abcdef", "0000000000000000"];
+        let output = run(&operands, &vec![0; length]);
+        assert_eq!(output.status.code(), Some(65));
+        assert!(output.stdout.is_empty());
+        assert_eq!(output.stderr, b"reference: overlong\n");
+    }
+}
+
+/// Each is tried as the key and as the first counter.
+#[test]
+fn wrong_operands_of_panel_give_usage_and_status_64() {
+    let fine = "0123456789abcdef";
+    for wrong in &wrong_operands() {
+        assert_wrong_usage(&["panel", wrong, fine]);
+        assert_wrong_usage(&["panel", fine, wrong]);
+    }
+    // A key's lengths that no counter has.
+    assert_wrong_usage(&["panel", fine, &digits(24)]);
+    assert_wrong_usage(&["panel", fine, &digits(32)]);
+    assert_wrong_usage(&["panel"]);
+    assert_wrong_usage(&["panel", fine]);
+    assert_wrong_usage(&["panel", fine, fine, fine]);
 }
 
 #[test]
@@ -202,6 +264,9 @@ fn anything_else_gives_usage_and_status_64() {
         &["faults"],
         &["vectors", "fault"],
         &["vectors", "faults", "4"],
+        &["vectors", "panels"],
+        &["vectors", "panel", "4"],
+        &["panels"],
         &["marks"],
         &["vectors", "mark"],
         &["vectors", "marks", "4"],

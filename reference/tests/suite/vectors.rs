@@ -2,6 +2,7 @@
 
 use crate::broken::{first_broken, NOWHERE};
 use crate::edition::Edition;
+use crate::panels::sealed_by_hand;
 use crate::support::*;
 use reference::cipher::phi_of_key;
 use reference::modes::cmac_steps;
@@ -19,7 +20,7 @@ fn numbered_key(t: usize, s: usize) -> Vec<u8> {
 }
 
 /// The text of a length with number s.
-fn numbered_text(s: usize, length: usize) -> Vec<u8> {
+pub fn numbered_text(s: usize, length: usize) -> Vec<u8> {
     let byte = |i| (53 * i + 31 * s + 7) % 256;
     (0..length).map(|i| byte(i) as u8).collect()
 }
@@ -206,6 +207,58 @@ fn cbc() {
         let digits = 16 * line[1].parse::<usize>().unwrap();
         assert_eq!(line[2].len(), if digits == 0 { 1 } else { digits });
         assert_eq!(line[3].len(), if digits == 0 { 1 } else { digits });
+    }
+}
+
+const PANEL_LENGTHS: [usize; 18] = [
+    0, 1, 7, 8, 9, 11, 16, 17, 31, 32, 33, 63, 64, 65, 191, 192, 193, 300,
+];
+
+/// First counters of `vectors panel` as printed.
+const PANEL_FIRSTS: [&str; 6] = [
+    "0000000000000000",
+    "0000000000000001",
+    "00000000ffffffff",
+    "ffffffffffffe000",
+    "fffffffffffffffe",
+    "ffffffffffffffff",
+];
+
+#[test]
+fn panels() {
+    let text = vectors::panels();
+    let mut lines = lines(&text).into_iter();
+    for t in CLASSES {
+        let key = numbered_key(t, t);
+        for first in PANEL_FIRSTS {
+            for length in PANEL_LENGTHS {
+                let line = lines.next().unwrap();
+                assert_eq!(line.len(), 4);
+                assert_eq!(line[..3], [&t.to_string(), first, &length.to_string()]);
+                assert_eq!(line[3].len(), if length == 0 { 1 } else { 2 * length });
+                let first = u64::from_str_radix(first, 16).unwrap();
+                let sealed = sealed_by_hand(&key, first, &numbered_text(length, length));
+                assert_eq!(hex(line[3]), sealed);
+            }
+        }
+    }
+    assert_eq!(lines.next(), None);
+    assert_eq!(text.lines().count(), 324);
+    assert!(text.starts_with("4 0000000000000000 0 -\n"));
+}
+
+#[test]
+fn panel_operands_are_a_key_and_a_counter() {
+    let operands = vectors::panel_operands("0d2a4764819eBBD8", "fedcBA9876543210");
+    let key = hex("0d2a4764819ebbd8");
+    assert_eq!(operands, Some((key, 0xfedcba9876543210)));
+    for digits in 0..40 {
+        let zeros = "0".repeat(digits);
+        let key = vectors::panel_operands(&zeros, "0000000000000001");
+        let key_fits = [16, 24, 32].contains(&digits);
+        assert_eq!(key, key_fits.then(|| (vec![0; digits / 2], 1)));
+        let first = vectors::panel_operands("0000000000000000", &zeros);
+        assert_eq!(first, (digits == 16).then(|| (vec![0; 8], 0)));
     }
 }
 

@@ -1,0 +1,4 @@
+pub mod Stream
+pub mod Blocks
+pub mod Calls
+pub mod Laws

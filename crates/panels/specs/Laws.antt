@@ -1,0 +1,89 @@
+-- What is proved of a wall panel (document 02, request 8), with mCrypton as the cipher, by any path number: which bytes it is sealed to, that the same call opens it,
+-- exactly which calls are refused, and what the counter is for. Keys, panels and outputs are bytes.
+use Prim.Native.Nat.{ℕ, _+_, _/_, _%_, _^_, _≤_, _<_}
+use mathlib.Core.Path.{_≡_}
+use mathlib.Core.Logic.{_≢_}
+use mathlib.Core.List.{List, [], _∷_}
+use lib.Bits.{bitXor}
+use lib.ListN.{length, getD, replicate}
+use Rattle.octets.specs.Bytes.{Bytes, zeros}
+use Rattle.octets.specs.Clauses.{Clause, _when_, Exactly, OneOf}
+use Rattle.schedule.specs.Schedule.{times}
+use Rattle.mcrypton.specs.Bytes.{encryptBytes}
+use Rattle.mcrypton.specs.Refusals.{Leaves}
+use Rattle.mcrypton.specs.Vectors.{key4, key6, key8}
+use Rattle.panels.specs.Calls.{panelling}
+
+-- ---- the sealed panel
+
+-- the counter block of a number: 8 bytes, high byte first
+abbrev pub counterBlock : ℕ → List ℕ
+counterBlock x =
+    x / 0x100000000000000 % 256 ∷ x / 0x1000000000000 % 256 ∷ x / 0x10000000000 % 256 ∷ x / 0x100000000 % 256
+    ∷ x / 0x1000000 % 256 ∷ x / 0x10000 % 256 ∷ x / 0x100 % 256 ∷ x % 256 ∷ []
+
+-- the key block of block i, under the key k by the path number p
+abbrev pub keyBlock : ℕ → List ℕ → ℕ → ℕ → List ℕ
+keyBlock p k first i = encryptBytes p k (counterBlock ((first + i) % 2 ^ 64))
+
+-- of a call on a panel x under the key k from the number first
+pub record Sealed (p : ℕ) (k : List ℕ) (first : ℕ) (x out : List ℕ) : Type 0 where
+  -- it is accepted with length 0, and the output is as long as the panel
+  pub accepted : (panelling k first x out) .number ≡ 0
+  pub len : (panelling k first x out) .len ≡ 0
+  pub size : length ((panelling k first x out) .bytes) ≡ length x
+  -- byte i is byte i of the panel and byte i mod 8 of key block i / 8, added
+  pub byte : (i : ℕ) → i < length x → getD ((panelling k first x out) .bytes) i 0 ≡ bitXor (getD x i 0) (getD (keyBlock p k first (i / 8)) (i % 8) 0)
+  -- a second time gives the panel
+  pub twice : (out′ : List ℕ) → length out′ ≡ length x → panelling k first ((panelling k first x out) .bytes) out′ ≡ record { number = 0; len = 0; bytes = x }
+
+-- ---- the clauses, in the order of the tests
+
+unfoldable pub panelClauses : List ℕ → List ℕ → List ℕ → List Clause
+panelClauses k x out =
+    (1 when (OneOf (8 ∷ 12 ∷ 16 ∷ []) (length k) → ⊥))
+    ∷ (3 when (length out ≡ length x → ⊥))
+    ∷ (7 when (65536 < length x))
+    ∷ []
+
+-- "Bronze Age.": a block, and a part of three bytes
+abbrev pub bronzeAge : List ℕ
+bronzeAge = 0x42 ∷ 0x72 ∷ 0x6f ∷ 0x6e ∷ 0x7a ∷ 0x65 ∷ 0x20 ∷ 0x41 ∷ 0x67 ∷ 0x65 ∷ 0x2e ∷ []
+
+-- calls whole, in plain values: number, length and the output after it; the second program made the sealed panels
+pub record PanelCalls : Type 0 where
+  -- accepted, with a key of each size: across the wrap, where the first block uses 2^64 - 1 and the part 0; across a carry; and from a number of eight unlike bytes
+  pub wraps-4 : panelling key4 0xffffffffffffffff bronzeAge (zeros 11)
+      ≡ record { number = 0; len = 0; bytes = 0x3e ∷ 0x5b ∷ 0xf6 ∷ 0xb1 ∷ 0x9b ∷ 0x65 ∷ 0xdd ∷ 0x4e ∷ 0xe9 ∷ 0xf6 ∷ 0xf7 ∷ [] }
+  pub carries-6 : panelling key6 0x00000000ffffffff bronzeAge (zeros 11)
+      ≡ record { number = 0; len = 0; bytes = 0x94 ∷ 0x0e ∷ 0xa0 ∷ 0x94 ∷ 0xcf ∷ 0x88 ∷ 0x62 ∷ 0x31 ∷ 0x16 ∷ 0x07 ∷ 0xee ∷ [] }
+  pub counts-8 : panelling key8 0x0123456789abcdef bronzeAge (zeros 11)
+      ≡ record { number = 0; len = 0; bytes = 0xfd ∷ 0x98 ∷ 0xa4 ∷ 0x88 ∷ 0x50 ∷ 0x55 ∷ 0x92 ∷ 0x62 ∷ 0x08 ∷ 0xd1 ∷ 0x87 ∷ [] }
+  -- a panel of no bytes, and the longest
+  pub empty : (first : ℕ) → panelling key4 first [] [] ≡ record { number = 0; len = 0; bytes = [] }
+  pub longest : (first : ℕ) → (panelling key4 first (zeros 65536) (zeros 65536)) .number ≡ 0
+  -- refused, for a key of 9 bytes, for an output of another length, and for 65537 bytes; each also meets those after it
+  pub wrong-key : (first : ℕ) → panelling (zeros 9) first (zeros 65537) (replicate 7 5) ≡ record { number = 1; len = 0; bytes = replicate 7 5 }
+  pub wrong-span : (first : ℕ) → panelling key4 first (zeros 65537) (replicate 65536 5) ≡ record { number = 3; len = 0; bytes = replicate 65536 5 }
+  pub overlong : (first : ℕ) → panelling key4 first (zeros 65537) (replicate 65537 5) ≡ record { number = 7; len = 0; bytes = replicate 65537 5 }
+
+-- ---- the statement
+
+pub record Panels : Type 0 where
+  pub seals : (p : ℕ) (k : List ℕ) (first : ℕ) (x out : List ℕ) → OneOf (8 ∷ 12 ∷ 16 ∷ []) (length k) → length out ≡ length x → length x ≤ 65536 → Sealed p k first x out
+  -- a call answers a number exactly if its proposition holds and no earlier one does, and 0 exactly if none holds
+  pub exactly : (k : List ℕ) (first : ℕ) (x out : List ℕ) → Exactly ((panelling k first x out) .number) (panelClauses k x out)
+  -- a refusal leaves the output as it was
+  pub refused : (k : List ℕ) (first : ℕ) (x out : List ℕ) → ((panelling k first x out) .number ≡ 0 → ⊥) → Leaves (panelling k first x out) out
+  -- a u64 that goes on by a wrapping add for each block is the number of block i
+  pub advances : (first i : ℕ) → first < 2 ^ 64 → times i (λ c. (c + 1) % 2 ^ 64) first ≡ (first + i) % 2 ^ 64
+  -- within a panel no two blocks share a counter block
+  pub once : (first i j : ℕ) → i < 2 ^ 64 → j < 2 ^ 64 → counterBlock ((first + i) % 2 ^ 64) ≡ counterBlock ((first + j) % 2 ^ 64) → i ≡ j
+  -- two panels under one key, of m and n blocks, whose counters don't overlap share no key block
+  pub apart : (p q : ℕ) (k : List ℕ) (first first′ m n : ℕ) → Bytes k → OneOf (8 ∷ 12 ∷ 16 ∷ []) (length k)
+      → ((i j : ℕ) → i < m → j < n → (first + i) % 2 ^ 64 ≢ (first′ + j) % 2 ^ 64)
+      → (i j : ℕ) → i < m → j < n → keyBlock p k first i ≢ keyBlock q k first′ j
+  -- and they don't where the second begins right after the first
+  pub next : (first m n i j : ℕ) → m + n ≤ 2 ^ 64 → i < m → j < n → (first + i) % 2 ^ 64 ≢ ((first + m) % 2 ^ 64 + j) % 2 ^ 64
+  -- each number can be met
+  pub calls : PanelCalls
