@@ -29,7 +29,7 @@ extern "C" {
 /* The version of this header, and that of the library that is linked. The two
  * are meant to be equal; where they aren't, a call may not be as it is declared
  * here. The text is the library's own and stays. */
-#define CAPTIONS_VERSION "0.6.0"
+#define CAPTIONS_VERSION "0.6.1"
 const char *captions_version(void);
 
 /* What a call answers, reads and writes aside: number is CAPTIONS_ACCEPTED or a
@@ -120,7 +120,8 @@ enum {
     CAPTIONS_TWIN_KEYS = 2,       /* sealing and checking key are equal */
     CAPTIONS_WRONG_SPAN = 3,      /* a block, an array or their output isn't 8
                                      bytes, a check output isn't 8, a window
-                                     isn't 192;
+                                     isn't 192, a panel's output isn't as long
+                                     as the panel;
                                      blanking: slots isn't 1 to 256, or the
                                      sheet isn't CAPTIONS_SHEET(slots) bytes */
     CAPTIONS_UNFIT_SHEET = 4,     /* shorter than 8 bytes, of no edition from 1
@@ -132,7 +133,8 @@ enum {
     CAPTIONS_OTHER_KEY_CLASS = 5, /* keys of another length than the sheet's;
                                      blanking: than key_words has */
     CAPTIONS_NO_SUCH_SLOT = 6,    /* the slot isn't below the slot count */
-    CAPTIONS_OVERLONG = 7,        /* a caption above 192 bytes */
+    CAPTIONS_OVERLONG = 7,        /* a caption above 192 bytes, a panel above
+                                     CAPTIONS_PANEL */
     CAPTIONS_WORN = 8,            /* a write on a sheet whose last write number
                                      is 4294967295 */
     CAPTIONS_BLANK = 9,           /* a read of a blank slot */
@@ -167,6 +169,7 @@ enum {
 #define CAPTIONS_FIELD 192   /* bytes of a sealed field, of a window and of the
                                 longest caption */
 #define CAPTIONS_SLOTS 256   /* the most slots of a sheet */
+#define CAPTIONS_PANEL 65536 /* bytes of the longest panel */
 #define CAPTIONS_LISTING 6836 /* bytes of the longest listing */
 #define CAPTIONS_LAST_DAY 36524 /* 2099-12-31; day 0 is 2000-01-01 */
 
@@ -214,6 +217,30 @@ captions_answer captions_bench_block(const uint8_t *key, size_t key_len,
 captions_answer captions_cmac(const uint8_t *key, size_t key_len,
                               const uint8_t *message, size_t message_len,
                               uint8_t *out, size_t out_len);
+
+/* Seals a wall panel of 0 to CAPTIONS_PANEL bytes into out, as many bytes, by
+ * counter mode (CTR of SP 800-38A). Called again on the sealed bytes with the same
+ * key and the same first, it opens them. Block i of 8 bytes, from 0, is added to
+ * the sealed number first + i, which wraps at 64 bits.
+ *
+ * WARNING: never seal two panels under one key from the same numbers: whoever has
+ * both has their exclusive or, and with one of the two texts the other. The
+ * library keeps nothing and can't see it. Note how far a key's numbers are used:
+ * the next panel may begin at first + captions_panel_blocks(panel_len). A key
+ * that seals panels is best kept for panels. Nothing shows that a sealed panel was
+ * changed: a bit that is flipped in it is flipped in the panel, and nowhere else.
+ * Refusals: WRONG_KEY, WRONG_SPAN, OVERLONG. */
+captions_answer captions_panel(const uint8_t *key, size_t key_len,
+                               uint64_t first,
+                               const uint8_t *panel, size_t panel_len,
+                               uint8_t *out, size_t out_len);
+
+/* How many numbers a panel of that many bytes uses, that of a last part block
+ * too. Plain code, here and not in the library. */
+static inline uint64_t captions_panel_blocks(size_t panel_len)
+{
+    return panel_len / CAPTIONS_BLOCK + (panel_len % CAPTIONS_BLOCK != 0);
+}
 
 /* Makes the bytes of sheet, CAPTIONS_SHEET(slots), a sheet of blank slots for
  * this pair of keys, which have key_words 16-bit words each: 4, 6 or 8 for keys

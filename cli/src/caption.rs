@@ -1,4 +1,4 @@
-//! Where the caption of `captions write` comes from.
+//! Where the caption of `captions write` comes from, and a panel.
 
 use crate::failure::Failure;
 use crate::input;
@@ -44,15 +44,17 @@ impl<'a> Source<'a> {
         }
     }
 
-    /// The caption's bytes. Where there are none, they were lost on their way
-    /// unless an empty caption is asked for.
-    pub fn bytes(&self) -> Result<Vec<u8>, Failure> {
+    /// The bytes of the caption, or of what else is named. Where there are none, they
+    /// were lost on their way unless that is asked for.
+    pub fn bytes(&self, what: &str) -> Result<Vec<u8>, Failure> {
         let (bytes, name) = match self {
             Source::Empty => return Ok(Vec::new()),
             Source::Text(text) => (text.as_bytes().to_vec(), "--text".to_string()),
             Source::File(path) => {
                 if self.is_standard_input() {
-                    prompt("type the caption; Ctrl-D twice ends it, Enter is part of it");
+                    prompt(&format!(
+                        "type the {what}; Ctrl-D twice ends it, Enter is part of it"
+                    ));
                 }
                 let input = input::of_file(path)?;
                 let name = input.name.clone();
@@ -60,7 +62,7 @@ impl<'a> Source<'a> {
             }
         };
         if bytes.is_empty() {
-            let message = format!("{name}: no caption; --empty writes one of no bytes");
+            let message = format!("{name}: no {what}; --empty gives one of no bytes");
             return Err(Failure::NoInput(message));
         }
         Ok(bytes)

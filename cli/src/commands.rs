@@ -11,6 +11,7 @@ use crate::keys::{key_of_file, Keys};
 use crate::kind::Kind;
 use crate::listing::{self, Listing, Verified};
 use crate::map;
+use crate::panel::{self, First};
 use crate::reasons::Given;
 use crate::sheet_file;
 use crate::shown::shown;
@@ -67,6 +68,7 @@ fn run_command(name: &str, words: &Words) -> Result<(), Failure> {
         "terms-blank" => terms_blank(file, second, words),
         "terms-set" => terms_set(file, second, words),
         "bench" => bench(file, second, third),
+        "panel" => panel(file, second, words),
         _ => Err(Failure::Usage(format!("{name} takes no words"))),
     }
 }
@@ -75,7 +77,7 @@ fn blank(file: &Path, slots: &OsStr, bits: &OsStr, words: &Words) -> Result<(), 
     let (slots, bits) = (number("SLOTS", slots)?, number("BITS", bits)?);
     let (serial, wait) = (serial(words.operand(3))?, wait(words)?);
     let keys = Path::new(words.operand(4));
-    not_another(file, &[("KEYS", keys)])?;
+    not_another(("FILE", file), &[("KEYS", keys)])?;
     let keys = Keys::of_file(keys)?;
     let given = Given {
         keys: Some(&keys),
@@ -101,9 +103,9 @@ fn write(file: &Path, slot: &OsStr, keys: &Path, words: &Words) -> Result<(), Fa
     let (slot, wait) = (number("SLOT", slot)?, wait(words)?);
     let source = Source::of(words)?;
     one_from_standard_input(&[input::is_standard(keys), source.is_standard_input()])?;
-    not_another(file, &[("KEYS", keys), ("NAME", source.file())])?;
+    not_another(("FILE", file), &[("KEYS", keys), ("NAME", source.file())])?;
     let keys = Keys::of_file(keys)?;
-    let caption = source.bytes()?;
+    let caption = source.bytes("caption")?;
     let mut is_there = false;
     sheet_file::change(file, wait, |sheet| {
         is_there = !words.has("--again") && holds(sheet, &keys, slot, &caption);
@@ -269,7 +271,7 @@ fn import(file: &Path, keys: &Path, words: &Words) -> Result<(), Failure> {
     let table = Path::new(words.value("--file").unwrap_or(OsStr::new("-")));
     let standard = [file, keys, table].map(input::is_standard);
     one_from_standard_input(&standard)?;
-    not_another(file, &[("KEYS", keys), ("NAME", table)])?;
+    not_another(("FILE", file), &[("KEYS", keys), ("NAME", table)])?;
     Import {
         file,
         keys,
@@ -351,6 +353,38 @@ fn bench(key: &Path, round: &OsStr, array: &OsStr) -> Result<(), Failure> {
     print(format!("{}\n", hex::digits_of(&block)).as_bytes())
 }
 
+fn panel(key: &Path, first: &OsStr, words: &Words) -> Result<(), Failure> {
+    let (first, wait) = (First::of(first)?, wait(words)?);
+    let (source, output) = (
+        panel::source(words)?,
+        words.value("--output").map(Path::new),
+    );
+    one_from_standard_input(&[input::is_standard(key), source.is_standard_input()])?;
+    if let Some(output) = output {
+        let read = [("KEYFILE", key), ("--file", source.file())];
+        not_another(("--output", output), &read)?;
+    }
+    let key = key_of_file(key)?;
+    let panel = source.bytes("panel")?;
+    let mut sealed = vec![0; panel.len()];
+    let given = Given {
+        key: Some(&key),
+        panel: Some(panel.len()),
+        ..Given::default()
+    };
+    let done = captions::panel(&key, first.number, &panel, &mut sealed);
+    done.map_err(|refusal| given.refused(refusal))?;
+    match output {
+        Some(output) => sheet_file::put(output, wait, &sealed, words.has("--force"))?,
+        None => print(&sealed)?,
+    }
+    warn(&format!(
+        "the first free number after this panel is {}",
+        first.after(panel.len())
+    ));
+    Ok(())
+}
+
 // ---- Their words ----
 
 /// The term sheet and the date of a dated read; none where it isn't dated.
@@ -410,14 +444,15 @@ fn wait(words: &Words) -> Result<Duration, Failure> {
 }
 
 /// The file that is to be replaced isn't one that is read, by whatever names.
-fn not_another(file: &Path, others: &[(&str, &Path)]) -> Result<(), Failure> {
-    let this = input::identity(file);
+fn not_another((file, path): (&str, &Path), others: &[(&str, &Path)]) -> Result<(), Failure> {
+    let this = input::identity(path);
     match others
         .iter()
         .find(|(_, other)| input::identity(other) == this)
     {
         Some((name, _)) if this.is_some() => {
-            Err(Failure::Usage(format!("FILE and {name} are the same file")))
+            let message = format!("{file} and {name} are the same file");
+            Err(Failure::Usage(message))
         }
         _ => Ok(()),
     }

@@ -32,7 +32,7 @@ const WAIT: (&str, &str) = (
     "wait so long for the folder's lock; 30 if not given",
 );
 
-pub const PAGES: [Page; 15] = [
+pub const PAGES: [Page; 16] = [
     Page {
         name: "blank",
         operands: &["FILE", "SLOTS", "BITS", "SERIAL", "KEYS"],
@@ -396,6 +396,45 @@ a block has its own.
         statuses: &[1, 3, 13, 65, 66],
     },
     Page {
+        name: "panel",
+        operands: &["KEYFILE", "FIRST"],
+        options: &[
+            ("--file NAME", "the panel is what the file NAME holds"),
+            ("--empty", "the panel has no bytes"),
+            ("--output NAME", "put what is sealed into the file NAME"),
+            ("--force", "replace an output file that exists"),
+            WAIT,
+        ],
+        instead: None,
+        usage: "KEYFILE FIRST\n[--file NAME | --empty] [--output NAME] [--force]\n[--wait SECONDS]",
+        summary: "seal or open a wall panel",
+        about: "\
+Seals a wall panel of up to 65536 bytes, which needs no sheet, by counter mode
+(CTR) under the key in KEYFILE. It is read from standard input and printed on
+standard output, unless an option names a file. The same command with the same
+KEYFILE and FIRST opens what is sealed.
+
+The panel's blocks of 8 bytes use the numbers FIRST, FIRST + 1 and so on; after
+18446744073709551615 comes 0. Standard error has the first number that is free
+after them, which the next panel under this key may begin with:
+
+    captions: the first free number after this panel is 8192
+
+Never seal two panels under one key from the same numbers: whoever has both has
+what they differ in, and with one of the two texts the other. The command can't
+know which numbers are used, so it never chooses one: note them. Keep a key for
+panels alone. Nothing shows that a sealed panel was changed on its way.
+
+A panel of no bytes is sealed only where --empty is given: input that is empty
+is taken for input that was lost (exit status 66).
+
+An output file that exists is left alone (exit status 73) unless --force is
+given. Even then a sheet, a term sheet or keys are never replaced, by their
+first bytes.
+",
+        statuses: &[1, 7, 65, 66, 73, 75, 79],
+    },
+    Page {
         name: "help",
         operands: &["COMMAND"],
         options: &[],
@@ -428,7 +467,10 @@ const STATUSES: [(u8, &str); 22] = [
         "other key class: the sheet was blanked for keys of another length; to\nblank one, the keys in KEYS aren't of BITS bits",
     ),
     (6, "no such slot: SLOT is the number of slots or more"),
-    (7, "overlong: the caption has more than 192 bytes"),
+    (
+        7,
+        "overlong: the caption has more than 192 bytes, the panel more than 65536",
+    ),
     (8, "worn: the sheet has had 4294967295 writes"),
     (9, "blank: the slot to be read is blank"),
     (
@@ -452,7 +494,7 @@ const STATUSES: [(u8, &str); 22] = [
     (65, "KEYS, KEYFILE or the table isn't in its form"),
     (
         66,
-        "what is to be read isn't there, may not be read or is empty: a sheet,\nkeys, a caption, a table",
+        "what is to be read isn't there, may not be read or is empty: a sheet,\nkeys, a caption, a table, a panel",
     ),
     (
         73,
@@ -494,7 +536,7 @@ const OPTIONS: [(&str, &str); 3] = [
     ("--", "the words after it are no options"),
 ];
 
-const OPERANDS: [(&str, &str); 11] = [
+const OPERANDS: [(&str, &str); 12] = [
     (
         "FILE",
         "a sheet or a term sheet; - is standard input where it is only read",
@@ -518,6 +560,10 @@ const OPERANDS: [(&str, &str); 11] = [
     (
         "KEYFILE",
         "a file with one line of hex digits, a key of 8, 12 or 16 bytes; - is\nstandard input",
+    ),
+    (
+        "FIRST",
+        "the number of a panel's first block: 0 to 18446744073709551615, or 0x\nand hex digits",
     ),
     ("ROUND", "a round of mCrypton, 0 to 12"),
     ("ARRAY", "the nibbles of an array, row by row: 16 hex digits"),

@@ -1,5 +1,5 @@
 //! Files of keys: two lines of hex digits, the sealing and the checking key, or
-//! one line, a key for the bench.
+//! one line, a key for the bench or for panels.
 
 use crate::failure::Failure;
 use crate::hex;
@@ -75,7 +75,7 @@ const SINGLE: Form<1> = Form {
     names: ["one"],
     all: "key",
     counted: "one key",
-    more: "more than one line; the bench takes one key",
+    more: "more than one line; this command takes one key",
 };
 
 fn keys_of_file<const LINES: usize>(

@@ -22,6 +22,7 @@ mod kind;
 mod listing;
 mod lock;
 mod map;
+mod panel;
 mod place;
 mod reasons;
 mod sheet_file;

@@ -6,7 +6,7 @@ use crate::failure::Failure;
 use crate::keys::Keys;
 use crate::kind::Kind;
 use crate::listing::Listing;
-use captions::{terms_len, Fault, Refusal, FIELD, LAST_DAY, ROUNDS, SLOTS};
+use captions::{terms_len, Fault, Refusal, FIELD, LAST_DAY, PANEL, ROUNDS, SLOTS};
 
 /// The words and bytes of a command that was refused, as many as there are.
 #[derive(Clone, Copy, Default)]
@@ -14,15 +14,16 @@ pub struct Given<'a> {
     pub sheet: Option<&'a [u8]>,
     pub terms: Option<&'a [u8]>,
     pub keys: Option<&'a Keys>,
-    /// The one key of the bench.
+    /// The one key of the bench or a panel.
     pub key: Option<&'a [u8]>,
     pub slot: Option<usize>,
     pub slots: Option<usize>,
     pub bits: Option<usize>,
     pub round: Option<usize>,
     pub array: Option<&'a [u8]>,
-    /// The bytes of the caption.
+    /// The bytes of the caption, or of the panel.
     pub caption: Option<usize>,
+    pub panel: Option<usize>,
 }
 
 impl Given<'_> {
@@ -38,7 +39,10 @@ impl Given<'_> {
             Refusal::WrongSpan => self.wrong_span(),
             Refusal::OtherKeyClass => self.other_class(),
             Refusal::NoSuchSlot => self.no_such_slot(),
-            Refusal::Overlong => self.caption.map(overlong),
+            Refusal::Overlong => match self.panel {
+                Some(length) => Some(overlong("panel", length, PANEL)),
+                None => Some(overlong("caption", self.caption?, FIELD)),
+            },
             Refusal::NoSuchRound => {
                 let round = self.round?;
                 Some(format!("{round}, where there are 0 to {ROUNDS}"))
@@ -166,12 +170,12 @@ fn slots_in(terms: &[u8]) -> Option<usize> {
         .map(|first| u16::from_be_bytes(*first).into())
 }
 
-fn overlong(length: usize) -> String {
+fn overlong(name: &str, length: usize, most: usize) -> String {
     let length = match length > MOST_COUNTED {
         true => format!("more than {MOST_COUNTED} bytes"),
         false => bytes(length),
     };
-    format!("{length}, where a caption has at most {FIELD}")
+    format!("{length}, where a {name} has at most {most}")
 }
 
 fn bytes(count: usize) -> String {

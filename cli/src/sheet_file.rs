@@ -78,6 +78,25 @@ pub fn create(
     }
 }
 
+/// Puts a sealed panel into a file. Over an existing one only where that is asked,
+/// and never over a sheet, a term sheet or keys.
+pub fn put(path: &Path, wait: Duration, bytes: &[u8], over_existing: bool) -> Result<(), Failure> {
+    replaceable(path)?;
+    let place = Place::locked(path, place::of_new, wait)?;
+    match place.existing() {
+        Ok(old) if over_existing => match Kind::of(&bytes_of(&old, path)?) {
+            kind @ (Kind::Sheet | Kind::Terms | Kind::Keys) => {
+                let message = format!("{}, which no panel replaces", kind.name());
+                Err(Failure::no_output(path, message))
+            }
+            Kind::Empty | Kind::Other => place.replace(bytes, &old),
+        },
+        Ok(_) => Err(Failure::no_output(path, "exists; --force replaces it")),
+        Err(error) if error.kind() == ErrorKind::NotFound => place.make(bytes, false),
+        Err(error) => Err(Failure::no_output(path, error)),
+    }
+}
+
 /// The bytes of a file that is to be replaced.
 fn bytes_of(old: &Existing, path: &Path) -> Result<Vec<u8>, Failure> {
     let mut bytes = Vec::with_capacity(MOST_BYTES);

@@ -4,7 +4,8 @@
 //! caption of up to 192 bytes, sealed under one key and checked under another.
 //! One pair of keys serves a sheet, the pair that it was blanked with ([`blank`]).
 //! A term sheet beside it says when each slot is on show ([`dated_read`],
-//! [`terms_set`]).
+//! [`terms_set`]). A wall panel of up to 65536 bytes is sealed without a sheet
+//! ([`panel`]).
 //! Everything that decides about a sheet is in the proved library; this crate lends
 //! it slices and gives its answers Rust's types. Any length and any number may be given:
 //! what the library can't use, it refuses. Nothing here panics.
@@ -63,6 +64,8 @@ pub const MARK: usize = 16;
 pub const FIELD: usize = 192;
 /// The most slots of a sheet.
 pub const SLOTS: usize = 256;
+/// The bytes of the longest panel.
+pub const PANEL: usize = 65536;
 /// The bytes of the longest listing.
 pub const LISTING: usize = 6836;
 /// The last day, 2099-12-31; day 0 is 2000-01-01.
@@ -200,6 +203,56 @@ pub fn bench_block(key: &[u8], round: usize, wanted: &[u8], out: &mut [u8]) -> R
 /// ```
 pub fn cmac(key: &[u8], message: &[u8], out: &mut [u8]) -> Result<(), Refusal> {
     done(library::cmac(key, message, out))
+}
+
+/// Seals a wall panel of 0 to [`PANEL`] bytes into `out`, as many bytes, by counter
+/// mode (CTR of SP 800-38A). Called again on the sealed bytes with the same key and
+/// the same `first`, it opens them. Block i of 8 bytes, from 0, is added to the
+/// sealed number `first` + i, which wraps at 64 bits.
+///
+/// **Never seal two panels under one key from the same numbers**: whoever has both
+/// has their exclusive or, and with one of the two texts the other. Nothing is kept
+/// between calls, so that nothing can see it. Note how far a key's numbers are used:
+/// the next panel may begin at `first` + [`panel_blocks`]. A key that seals panels is
+/// best kept for panels. Nothing shows that a sealed panel was changed: a bit that is
+/// flipped in it is flipped in the panel, and nowhere else.
+///
+/// # Errors
+///
+/// In the order of the tests: [`Refusal::WrongKey`], [`Refusal::WrongSpan`] where
+/// `out` hasn't the panel's length, and [`Refusal::Overlong`]; `out` is then as it
+/// was.
+///
+/// ```
+/// use captions::{panel, panel_blocks, Refusal};
+///
+/// let key = [0x0d, 0x2a, 0x47, 0x64, 0x81, 0x9e, 0xbb, 0xd8];
+/// let (text, first) = (b"Bronze Age.", u64::MAX);
+/// let mut sealed = [0; 11];
+/// panel(&key, first, text, &mut sealed)?;
+/// // The first block uses 2^64 - 1, the three bytes after it use 0.
+/// assert_eq!(sealed, *b"\x3e\x5b\xf6\xb1\x9b\x65\xdd\x4e\xe9\xf6\xf7");
+///
+/// let mut opened = [0; 11];
+/// panel(&key, first, &sealed, &mut opened)?;
+/// assert_eq!(&opened, text);
+/// assert_eq!(first.wrapping_add(panel_blocks(text.len())), 1);
+/// assert_eq!(panel(&key, first, text, &mut opened[..10]), Err(Refusal::WrongSpan));
+/// # Ok::<(), Refusal>(())
+/// ```
+pub fn panel(key: &[u8], first: u64, panel: &[u8], out: &mut [u8]) -> Result<(), Refusal> {
+    done(library::panel(key, first, panel, out))
+}
+
+/// How many numbers a panel of that many bytes uses, that of a last part block too.
+///
+/// ```
+/// use captions::{panel_blocks, PANEL};
+///
+/// assert_eq!([0, 1, 8, 9, PANEL].map(panel_blocks), [0, 1, 1, 2, 8192]);
+/// ```
+pub const fn panel_blocks(length: usize) -> u64 {
+    length.div_ceil(BLOCK) as u64
 }
 
 /// Makes a buffer of [`sheet_len`]`(slots)` bytes a sheet of blank slots for this

@@ -76,6 +76,15 @@ mod c {
             out: *mut u8,
             out_len: usize,
         ) -> Answer;
+        pub fn captions_panel(
+            key: *const u8,
+            key_len: usize,
+            first: u64,
+            panel: *const u8,
+            panel_len: usize,
+            out: *mut u8,
+            out_len: usize,
+        ) -> Answer;
         pub fn captions_blank(
             sheet: *mut u8,
             sheet_len: usize,
@@ -188,6 +197,20 @@ pub fn cmac(key: &[u8], message: &[u8], out: &mut [u8]) -> Answer {
             key.len(),
             message.as_ptr(),
             message.len(),
+            out.as_mut_ptr(),
+            out.len(),
+        )
+    }
+}
+
+pub fn panel(key: &[u8], first: u64, panel: &[u8], out: &mut [u8]) -> Answer {
+    unsafe {
+        c::captions_panel(
+            key.as_ptr(),
+            key.len(),
+            first,
+            panel.as_ptr(),
+            panel.len(),
             out.as_mut_ptr(),
             out.len(),
         )

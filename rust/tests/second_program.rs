@@ -153,6 +153,31 @@ fn bench() {
     met.all_of(&[0, 1, 3, 13]);
 }
 
+/// Lengths about every edge, from numbers at either end; an output of another length.
+#[test]
+fn panels() {
+    let mut random = Random(5);
+    let mut met = Met::default();
+    for length in (0..=300).chain([65535, 65536, 65537]) {
+        for first in [0, u64::from(u32::MAX), u64::MAX - 8191, u64::MAX] {
+            let (key, panel) = (random.key(), random.bytes(length));
+            let old = random.pick(&[length, length, length, length + 1, length.max(1) - 1]);
+            let (mut out, mut expected) = (vec![5; old], vec![5; old]);
+            let answer = captions::panel(&key, first, &panel, &mut out).map(|()| 0);
+            let theirs = reference::panel::panel(&key, first, &panel, &mut expected);
+            met.compare(answer, theirs);
+            assert!(out == expected);
+            assert_eq!(
+                captions::panel_blocks(length),
+                reference::panel::panel_blocks(length)
+            );
+        }
+    }
+    assert_eq!(captions::PANEL, reference::panel::MOST_PANEL_BYTES);
+    assert_eq!(captions::panel_blocks(usize::MAX), 1 << 61);
+    met.all_of(&[0, 1, 3, 7]);
+}
+
 #[test]
 fn checks() {
     let mut random = Random(2);

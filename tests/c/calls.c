@@ -194,6 +194,62 @@ static void bench(void)
     }
 }
 
+/* "Bronze Age." from 2^64 - 1, as `reference panel` seals it under keys of 8, 12
+ * and 16 bytes. */
+static const uint8_t panels[][11] = {
+    {0x3e, 0x5b, 0xf6, 0xb1, 0x9b, 0x65, 0xdd, 0x4e, 0xe9, 0xf6, 0xf7},
+    {0xfe, 0xa5, 0x7e, 0xa0, 0x45, 0x5a, 0x41, 0x57, 0x89, 0xb9, 0x3f},
+    {0x29, 0xe4, 0x3b, 0xd5, 0x07, 0x5c, 0xa6, 0x73, 0x07, 0x9b, 0x09},
+};
+
+static void panel(void)
+{
+    static const uint8_t *const text = (const uint8_t *)"Bronze Age.";
+    static uint8_t longest[CAPTIONS_PANEL + 1], sealed[CAPTIONS_PANEL + 1],
+        opened[CAPTIONS_PANEL + 1];
+    uint8_t out[12];
+    size_t i;
+    memset(out, UNTOUCHED, sizeof out);
+    for (i = 0; i < 3; i++) {
+        CHECK(accepted(captions_panel(sealing, 8 + 4 * i, UINT64_MAX, text, 11,
+                                      out, 11)));
+        CHECK(same(out, panels[i], 11) && out[11] == UNTOUCHED);
+        CHECK(accepted(captions_panel(sealing, 8 + 4 * i, UINT64_MAX,
+                                      panels[i], 11, out, 11)));
+        CHECK(same(out, text, 11) && out[11] == UNTOUCHED);
+    }
+    memset(out, UNTOUCHED, sizeof out);
+    CHECK(refused(captions_panel(sealing, 7, 0, text, 11, out, 10),
+                  CAPTIONS_WRONG_KEY));
+    CHECK(refused(captions_panel(sealing, 17, 0, text, 11, out, 11),
+                  CAPTIONS_WRONG_KEY));
+    CHECK(refused(captions_panel(sealing, 8, 0, text, 11, out, 10),
+                  CAPTIONS_WRONG_SPAN));
+    CHECK(refused(captions_panel(sealing, 8, 0, text, 11, out, 12),
+                  CAPTIONS_WRONG_SPAN));
+    CHECK(refused(captions_panel(sealing, 8, 0, longest, CAPTIONS_PANEL + 1,
+                                 out, 12),
+                  CAPTIONS_WRONG_SPAN));
+    CHECK(accepted(captions_panel(sealing, 8, 0, text, 0, out, 0)));
+    CHECK(all(out, sizeof out, UNTOUCHED));
+    memset(longest, 0x41, sizeof longest);
+    memset(sealed, UNTOUCHED, sizeof sealed);
+    CHECK(refused(captions_panel(sealing, 8, 0, longest, CAPTIONS_PANEL + 1,
+                                 sealed, CAPTIONS_PANEL + 1),
+                  CAPTIONS_OVERLONG));
+    CHECK(all(sealed, sizeof sealed, UNTOUCHED));
+    CHECK(accepted(captions_panel(sealing, 8, UINT64_MAX - 4095, longest,
+                                  CAPTIONS_PANEL, sealed, CAPTIONS_PANEL)));
+    CHECK(sealed[CAPTIONS_PANEL] == UNTOUCHED);
+    CHECK(accepted(captions_panel(sealing, 8, UINT64_MAX - 4095, sealed,
+                                  CAPTIONS_PANEL, opened, CAPTIONS_PANEL)));
+    CHECK(same(opened, longest, CAPTIONS_PANEL));
+    CHECK(captions_panel_blocks(0) == 0 && captions_panel_blocks(1) == 1);
+    CHECK(captions_panel_blocks(8) == 1 && captions_panel_blocks(9) == 2);
+    CHECK(captions_panel_blocks(CAPTIONS_PANEL) == 8192);
+    CHECK(captions_panel_blocks((size_t)-1) == (uint64_t)1 << 61);
+}
+
 /* Nine bytes under the key of number 9; nothing under the key of number 0. */
 static void checks_by_cmac(void)
 {
@@ -1124,6 +1180,7 @@ int main(void)
     block_refusals(captions_encrypt_block);
     block_refusals(captions_decrypt_block);
     bench();
+    panel();
     checks_by_cmac();
     days_and_dates();
     no_such_dates();

@@ -1,6 +1,6 @@
-/* Prints what `reference vectors blocks`, `cmac`, `bench`, `marks` or `sheet`
- * prints, each line made by the library's own calls, so that the two texts can
- * be compared. */
+/* Prints what `reference vectors blocks`, `cmac`, `bench`, `panel`, `marks` or
+ * `sheet` prints, each line made by the library's own calls, so that the two
+ * texts can be compared. */
 #include "captions.h"
 
 #include <stdio.h>
@@ -89,6 +89,29 @@ static void bench(void)
             print_hex(array, 8, " ");
             print_hex(block, 8, "\n");
         }
+}
+
+static void panels(void)
+{
+    static const uint64_t firsts[] = {0, 1, 0xffffffff, UINT64_MAX - 8191,
+                                      UINT64_MAX - 1, UINT64_MAX};
+    static const size_t lengths[] = {0,  1,  7,  8,  9,  11,  16,  17,  31,
+                                     32, 33, 63, 64, 65, 191, 192, 193, 300};
+    size_t words, i, j;
+    for (words = 4; words <= 8; words += 2)
+        for (i = 0; i < sizeof firsts / sizeof firsts[0]; i++)
+            for (j = 0; j < sizeof lengths / sizeof lengths[0]; j++) {
+                uint8_t key[16], text[300], out[300];
+                size_t length = lengths[j];
+                make_key(key, words, words);
+                make_text(text, length, length);
+                captions_panel(key, 2 * words, firsts[i], text, length, out,
+                               length);
+                printf("%lu %016llx %lu %s", (unsigned long)words,
+                       (unsigned long long)firsts[i], (unsigned long)length,
+                       length == 0 ? "-" : "");
+                print_hex(out, length, "\n");
+            }
 }
 
 struct keys {
@@ -281,12 +304,14 @@ int main(int count, char **words)
         cmacs();
     } else if (strcmp(kind, "bench") == 0) {
         bench();
+    } else if (strcmp(kind, "panel") == 0) {
+        panels();
     } else if (strcmp(kind, "marks") == 0) {
         marks();
     } else if (strcmp(kind, "sheet") == 0) {
         sheets();
     } else {
-        fputs("usage: vectors blocks|cmac|bench|marks|sheet\n", stderr);
+        fputs("usage: vectors blocks|cmac|bench|panel|marks|sheet\n", stderr);
         return 64;
     }
     return fflush(stdout) != 0;

@@ -111,7 +111,7 @@ fn words_that_are_no_round_or_no_array() {
 fn what_is_wrong_with_the_key_is_said() {
     let scratch = Scratch::new();
     let digits = hex(&SEALING[..8]);
-    let more = "line 2: more than one line; the bench takes one key";
+    let more = "line 2: more than one line; this command takes one key";
     for (text, expected) in [
         (String::new(), "it is empty"),
         (format!("{digits}\n{digits}\n"), more),

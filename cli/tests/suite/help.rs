@@ -4,7 +4,7 @@
 use crate::support::*;
 use crate::words;
 
-const COMMANDS: [&str; 15] = [
+const COMMANDS: [&str; 16] = [
     "blank",
     "write",
     "read",
@@ -19,6 +19,7 @@ const COMMANDS: [&str; 15] = [
     "terms-blank",
     "terms-set",
     "bench",
+    "panel",
     "help",
 ];
 
@@ -48,8 +49,8 @@ fn help_as_people_ask_for_it() {
     run(&["help", "open"]).failed(64, "no command open");
     run(&["help", "list", "read"]).failed(64, "help takes one command");
     run(&["list", "--", "--help"]).failed(66, "--help: No such file");
-    assert_eq!(printed(&["--version"]), "captions 0.6.0\n");
-    assert_eq!(printed(&["-V"]), "captions 0.6.0\n");
+    assert_eq!(printed(&["--version"]), "captions 0.6.1\n");
+    assert_eq!(printed(&["-V"]), "captions 0.6.1\n");
 }
 
 /// A section's items: terms, and texts with their lines joined.

@@ -16,6 +16,7 @@ mod listing;
 mod map;
 mod no_work_lost;
 mod one_pair;
+mod panel;
 mod reasons;
 mod refusals;
 mod streams;

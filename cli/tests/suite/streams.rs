@@ -150,7 +150,7 @@ fn no_input_is_no_caption() {
     let (file, keys) = sheet(&scratch);
     let state = || (fs::read(&file).unwrap(), fs::metadata(&file).unwrap().ino());
     let (before, write) = (state(), words!["write", file, "0", keys]);
-    let lost = "no caption; --empty writes one of no bytes";
+    let lost = "no caption; --empty gives one of no bytes";
     run(&write).failed(66, lost);
     shell("exec \"$@\" </dev/null", &write, b"").failed(66, lost);
     shell("false | \"$@\"", &write, b"").failed(66, lost);

@@ -82,7 +82,7 @@ fn a_caption_typed_at_a_terminal() {
     let (status, shown) = at_a_terminal(&write, END.as_bytes());
     assert_eq!(status, 66);
     assert!(
-        shown.contains("no caption; --empty writes one of no bytes"),
+        shown.contains("no caption; --empty gives one of no bytes"),
         "{shown}"
     );
     run(&words!["read", file, "0", keys]).printed(b"Clock\n");

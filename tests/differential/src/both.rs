@@ -125,6 +125,28 @@ impl Both {
         (ours, true_out)
     }
 
+    pub fn panel(&mut self, key: &[u8], first: u64, panel: &[u8], out: &[u8]) -> (Answer, Vec<u8>) {
+        let call = || {
+            let (panel, out) = (panel.len(), out.len());
+            format!("panel key {key:02x?} first {first:#x} panel of {panel} output of {out}")
+        };
+        let mut true_out = out.to_vec();
+        let theirs = reference::panel::panel(key, first, panel, &mut true_out);
+        let (lent_key, lent_panel, mut lent_out) =
+            (self.lend(key), self.lend(panel), self.lend(out));
+        let ours = library::panel(
+            lent_key.bytes(),
+            first,
+            lent_panel.bytes(),
+            lent_out.bytes_mut(),
+        );
+        self.hold_answer(call, ours, theirs);
+        self.hold_bytes(call, "key", &lent_key, key);
+        self.hold_bytes(call, "panel", &lent_panel, panel);
+        self.hold_bytes(call, "output", &lent_out, &true_out);
+        (ours, true_out)
+    }
+
     /// Blanking; `sheet` becomes what both programs leave.
     pub fn blank(
         &mut self,

@@ -1,9 +1,10 @@
 //! The bytes of the calls that are exhibited in proofs, made again by the second
 //! program: what `crates/exhibits/specs/Values.antt` and the records of blocks,
-//! round keys, rounds, CMAC and the bench call its values are its values.
+//! round keys, rounds, CMAC, the bench and panels call its values are its values.
 
 use differential::report;
 use reference::cipher::sealing_key;
+use reference::panel::panel;
 use reference::{bench_block, blank, cmac, decrypt_block, encrypt_block, read, store_field, write};
 
 const SEALING: [u8; 8] = [0x0d, 0x2a, 0x47, 0x64, 0x81, 0x9e, 0xbb, 0xd8];
@@ -148,7 +149,19 @@ fn calls_with_a_key_of_each_size() {
         assert_eq!(bench_block(&key(size), round, &block, &mut out).number, 0);
         assert_eq!(bench.made(&format!("round-{round}")), out);
     }
-    report("exhibits: blocks, CMAC and the bench with keys of 8, 12 and 16 bytes");
+
+    // The first number stands in each field too, before the bytes.
+    let panels = Specs::of("panels/specs/Laws.antt");
+    let text = b"Bronze Age.";
+    assert_eq!(panels.bytes("bronzeAge"), text);
+    for (size, name) in [(8, "wraps-4"), (12, "carries-6"), (16, "counts-8")] {
+        let numbers = panels.numbers(&format!("pub {name} :"), "}");
+        let (first, bytes) = numbers.split_first().expect("a first number");
+        let mut out = [0; 11];
+        assert_eq!(panel(&key(size), *first, text, &mut out).number, 0);
+        assert_eq!(bytes, out.map(u64::from), "{name}");
+    }
+    report("exhibits: blocks, CMAC, the bench and panels with keys of 8, 12 and 16 bytes");
 }
 
 #[test]
