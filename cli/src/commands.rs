@@ -376,7 +376,7 @@ fn panel(key: &Path, first: &OsStr, words: &Words) -> Result<(), Failure> {
     done.map_err(|refusal| given.refused(refusal))?;
     match output {
         Some(output) => sheet_file::put(output, wait, &sealed, words.has("--force"))?,
-        None => print(&sealed)?,
+        None => print_caption(&sealed)?,
     }
     warn(&format!(
         "the first free number after this panel is {}",

@@ -22,8 +22,8 @@ pub fn print(bytes: &[u8]) -> Result<(), Failure> {
     }
 }
 
-/// Prints a caption as it is. On a terminal a line feed ends its line, so that what
-/// comes next begins a line of its own.
+/// Prints a caption or a panel as it is. On a terminal a line feed ends its line, so
+/// that what comes next begins a line of its own.
 pub fn print_caption(caption: &[u8]) -> Result<(), Failure> {
     match stdout().is_terminal() && !caption.ends_with(b"\n") {
         true => print(&[caption, b"\n"].concat()),

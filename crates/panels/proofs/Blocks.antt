@@ -18,7 +18,7 @@ use Rattle.mcrypton.specs.Registers.{encryptFrom}
 use Rattle.mcrypton.proofs.ByteBlocks.{length-bytes}
 use Rattle.cipher.proofs.Field.{map-at}
 use Rattle.modes.specs.Xor.{xorBytes}
-use Rattle.panels.specs.CTR.{T, O, joined, panelBlocks, ctr}
+use Rattle.panels.specs.CTR.{T, O, joined, ctr}
 use Rattle.panels.specs.Steps.{Counters, encryptedFrom, blockOf}
 use Rattle.panels.proofs.Stream.{T-same, xor-take, joined-same, ctr-wraps, ctr-stream, ctr-block, size, split}
 
@@ -100,7 +100,6 @@ encrypted-at u c n a rest i e l h =
 
 pub part-sealed : (u : Register) (c n : ℕ) (p : List ℕ) (a x rest : List (List ℕ)) (s out : List ℕ) → n ≡ (length p + 7) / 8 → n ≤ length a → Counters c n a
     → x ≡ map (encryptFrom 0 u) (take n a) → take (8 * n) s ≡ joined (blockOf (x ++ rest)) n → out ≡ xorBytes p s → out ≡ ctr (encryptedFrom u) c p
-unfolding panelBlocks
 part-sealed u c n p a x rest s out l m e f g h =
     h
     ∙ sym (xor-take (8 * n) p s (omega arith))

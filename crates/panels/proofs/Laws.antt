@@ -1,10 +1,10 @@
 -- What is said of a panel holds.
-use Prim.Native.Nat.{ℕ, zero, suc, _+_, _/_, _%_, _^_, _≤_, _<_}
+use Prim.Native.Nat.{ℕ, zero, suc, _+_, _-_, _*_, _/_, _%_, _^_, _≤_, _<_}
 use mathlib.Core.Path.{_≡_, refl, sym, ap, _∙_}
 use mathlib.Core.Logic.{_≢_}
 use mathlib.Core.Bool.{true}
 use mathlib.Core.List.{List, [], _∷_}
-use native.Mathlib.Nat.{div-one}
+use native.Mathlib.Nat.{div-one, mul-zero, mul-suc}
 use native.Mathlib.Omega.{arith}
 use lib.Bits.{bitXor}
 use lib.ListN.{length, getD, replicate, length-replicate}
@@ -22,17 +22,18 @@ use Rattle.mcrypton.specs.Cipher.{byWords, afterBy, steps, encryptBlock}
 use Rattle.mcrypton.specs.Bytes.{keyLength, wordsOf, bytesOf, encryptBytes, decryptBytes}
 use Rattle.mcrypton.specs.Refusals.{Leaves}
 use Rattle.mcrypton.specs.Vectors.{key4}
+use Rattle.std.proofs.num.wrapping_add_u64.Reads as wrapping-add
 use Rattle.mcrypton.proofs.Paths.{same-steps}
-use Rattle.mcrypton.proofs.ByteBlocks.{length-bytes, block-encrypted}
+use Rattle.mcrypton.proofs.ByteBlocks.{length-bytes, bytes-bytes, block-encrypted}
 use Rattle.mcrypton.proofs.Refusals.{reflects-length}
 use Rattle.cipher.specs.Promise.{ByteBlock}
 use Rattle.cipher.proofs.Promise.{mcrypton-invertible}
 use Rattle.modes.specs.Xor.{xorBytes}
-use Rattle.panels.specs.CTR.{T, O, C, joined, panelBlocks, ctr}
+use Rattle.panels.specs.CTR.{T, O, C, joined, ctr}
 use Rattle.panels.specs.Calls.{panelNumber, panelOutcome, panelTests, panelling}
-use Rattle.panels.specs.Laws.{counterBlock, keyBlock, Sealed, panelClauses, PanelCalls, Panels}
+use Rattle.panels.specs.Laws.{counterBlock, keyBlock, Sealed, panelClauses, PanelCalls, PanelAnswers, Panels}
 use Rattle.panels.specs.declared.PanelAnswer.the-variants.{Accepted}
-use Rattle.panels.proofs.Stream.{size, byte, twice}
+use Rattle.panels.proofs.Stream.{ctr-bytes, size, byte, twice}
 use Rattle.panels.proofs.Calls.{wrong-key, wrong-span, overlong, accepts}
 
 -- ---- counter blocks
@@ -45,10 +46,19 @@ once : (first i j : ℕ) → i < 2 ^ 64 → j < 2 ^ 64 → counterBlock ((first 
 once first i j h g e =
     omega (arith, be-inj 8 ((first + i) % 2 ^ 64) ((first + j) % 2 ^ 64) (omega arith) (omega arith) (block-is ((first + i) % 2 ^ 64) ∙ e ∙ sym (block-is ((first + j) % 2 ^ 64))))
 
-advances : (first i : ℕ) → first < 2 ^ 64 → times i (λ c. (c + 1) % 2 ^ 64) first ≡ (first + i) % 2 ^ 64
+advances : (d first n : ℕ) → first < 2 ^ 64 → times n (λ c. (c + d) % 2 ^ 64) first ≡ (first + d * n) % 2 ^ 64
 unfolding times
-advances first zero h = omega arith
-advances first (suc i) h = omega (arith, advances first i h)
+advances d first zero h = omega (arith, mul-zero d)
+advances d first (suc n) h = omega (arith, advances d first n h, mul-suc d n)
+
+-- the same of the add that the code calls, as a caller learns its contract: c is first after i adds of 1
+pub data Advanced (first : ℕ) : ℕ → ℕ → Type 0 where
+  none : Advanced first 0 first
+  one-more : {i c r : ℕ} → Advanced first i c → wrapping-add.Learnt tt (c, (1, tt)) r (c, (1, tt)) → Advanced first (i + 1) r
+
+pub advanced : (first i c : ℕ) → first < 2 ^ 64 → Advanced first i c → c ≡ (first + i) % 2 ^ 64
+advanced first i c h none = omega arith
+advanced first i c h (one-more {i = j} {c = b} a e) = omega (arith, advanced first j b h a, e)
 
 -- ---- key blocks, by any path number
 
@@ -60,23 +70,33 @@ eight : (k b : List ℕ) → length (encryptBytes 0 k b) ≡ 8
 unfolding encryptBytes
 eight k b = length-bytes (block-encrypted 0 (wordsOf k) (wordsOf b))
 
+key-bytes : (k b : List ℕ) → Bytes (encryptBytes 0 k b)
+unfolding encryptBytes
+key-bytes k b = bytes-bytes (block-encrypted 0 (wordsOf k) (wordsOf b))
+
 key-block : (p : ℕ) (k : List ℕ) (first i : ℕ) → O (encryptBytes 0 k) first i ≡ keyBlock p k first i
 unfolding O T
 key-block p k first i = ap (encryptBytes 0 k) (block-is ((first + i) % 2 ^ 64)) ∙ sym (by-path p k _)
 
-apart : (p q : ℕ) (k : List ℕ) (first first′ m n : ℕ) → Bytes k → OneOf (8 ∷ 12 ∷ 16 ∷ []) (length k)
-    → ((i j : ℕ) → i < m → j < n → (first + i) % 2 ^ 64 ≢ (first′ + j) % 2 ^ 64)
-    → (i j : ℕ) → i < m → j < n → keyBlock p k first i ≢ keyBlock q k first′ j
+apart : (p q : ℕ) (k : List ℕ) (first first′ i j : ℕ) → Bytes k → OneOf (8 ∷ 12 ∷ 16 ∷ []) (length k)
+    → (first + i) % 2 ^ 64 ≢ (first′ + j) % 2 ^ 64 → keyBlock p k first i ≢ keyBlock q k first′ j
 unfolding O T
-apart p q k first first′ m n tk hk h i j li lj e =
+apart p q k first first′ i j tk hk h e =
     let undo = mcrypton-invertible 0 0 tk (reflects-yes (reflects-length (length k)) hk) .decrypt-encrypt in
     let x : ℕ = (first + i) % 2 ^ 64 in
     let y : ℕ = (first′ + j) % 2 ^ 64 in
     let b : (z : ℕ) → ByteBlock (be 8 z) = λ z. record { size = length-be 8 z; bytes = be-bytes 8 z } in
-    h i j li lj (be-inj 8 x y (omega arith) (omega arith) (sym (undo (be 8 x) (b x)) ∙ ap (decryptBytes 0 k) (key-block p k first i ∙ e ∙ sym (key-block q k first′ j)) ∙ undo (be 8 y) (b y)))
+    h (be-inj 8 x y (omega arith) (omega arith) (sym (undo (be 8 x) (b x)) ∙ ap (decryptBytes 0 k) (key-block p k first i ∙ e ∙ sym (key-block q k first′ j)) ∙ undo (be 8 y) (b y)))
 
-next : (first m n i j : ℕ) → m + n ≤ 2 ^ 64 → i < m → j < n → (first + i) % 2 ^ 64 ≢ ((first + m) % 2 ^ 64 + j) % 2 ^ 64
-next first m n i j h li lj e = omega (arith, e)
+next : (p q : ℕ) (k : List ℕ) (first : ℕ) (x y : List ℕ) → Bytes k → OneOf (8 ∷ 12 ∷ 16 ∷ []) (length k) → length x ≤ 65536 → length y ≤ 65536
+    → (i j : ℕ) → i < length x → j < length y → keyBlock p k first (i / 8) ≢ keyBlock q k ((first + (length x + 7) / 8) % 2 ^ 64) (j / 8)
+next p q k first x y tk hk lx ly i j li lj = apart p q k first _ (i / 8) (j / 8) tk hk (λ e. omega (arith, e, lx, ly, li, lj))
+
+sooner : (p : ℕ) (k : List ℕ) (first : ℕ) (x : List ℕ) → 0 < length x
+    → keyBlock p k first ((length x - 1) / 8) ≡ keyBlock p k ((first + ((length x + 7) / 8 - 1)) % 2 ^ 64) 0
+sooner p k first x h =
+    ap (λ (z : ℕ). encryptBytes p k (counterBlock z)) {x = (first + (length x - 1) / 8) % 2 ^ 64} {y = ((first + ((length x + 7) / 8 - 1)) % 2 ^ 64 + 0) % 2 ^ 64}
+    (omega (arith, h))
 
 -- ---- the sealed panel
 
@@ -94,6 +114,7 @@ module _ (k : List ℕ) (first : ℕ) (hk : OneOf (8 ∷ 12 ∷ 16 ∷ []) (leng
         accepted = ap (λ (o : Outcome). o .number) (answer x out n l);
         len = ap (λ (o : Outcome). o .len) (answer x out n l);
         size = rw (answer x out n l) s;
+        bytes = λ b. rw (answer x out n l) (ctr-bytes E e first x (λ y. key-bytes k (T y)) b);
         byte = λ i h. rw (answer x out n l) (byte E e first x i h ∙ ap (λ (b : List ℕ). bitXor (getD x i 0) (getD b (i % 8) 0)) (key-block p k first (i / 8)));
         twice = λ out′ n′. rw (answer x out n l) (answer (ctr E first x) out′ (n′ ∙ sym s) (omega (arith, s)) ∙ ap (panelOutcome Accepted) (twice E e first x));
       }
@@ -116,7 +137,7 @@ module _ (k : List ℕ) (first : ℕ) (x out : List ℕ) where
 
 -- by computing, and where a panel is long by its length alone
 panel-calls : PanelCalls
-unfolding rotate1 rotate sboxes sbox γ π τ byCount forwardWords forward4 forward6 forward8 forward start eightWords times register constants registerT lastWord roundKey encryptionKey byWords afterBy steps encryptBlock wordsOf bytesOf encryptBytes xorBytes be T O C joined panelBlocks ctr zeros panelling panelOutcome panelTests decided keyLength
+unfolding rotate1 rotate sboxes sbox γ π τ byCount forwardWords forward4 forward6 forward8 forward start eightWords times register constants registerT lastWord roundKey encryptionKey byWords afterBy steps encryptBlock wordsOf bytesOf encryptBytes xorBytes be T O C joined ctr zeros panelling panelOutcome panelTests decided keyLength
 panel-calls =
     record {
       wraps-4 = refl;
@@ -129,15 +150,21 @@ panel-calls =
       overlong = λ first. sym (overlong key4 first (zeros 65537) (replicate 65537 5) true refl refl (length-replicate {A = ℕ} 65537 5 ∙ sym (length-zeros 65537)) (omega (arith, length-zeros 65537)));
     }
 
+panel-answers : PanelAnswers
+unfolding panelOutcome
+panel-answers = record { accepted = λ bytes. refl; wrong-key = λ bytes. refl; wrong-span = λ bytes. refl; overlong = λ bytes. refl }
+
 pub panels : Panels
 panels =
     record {
       seals = λ p k first x out hk. sealed k first hk p x out;
       exactly = call-exactly;
       refused = call-refused;
+      answers = panel-answers;
       advances = advances;
       once = once;
       apart = apart;
       next = next;
+      sooner = sooner;
       calls = panel-calls;
     }

@@ -1,6 +1,6 @@
 -- Laws of counter mode: a panel is added to its key blocks, one after the other, as far as it goes. The rest follows from that.
 use Prim.Native.Nat.{ℕ, zero, suc, _+_, _-_, _*_, _/_, _%_, _^_, _≤_, _<_}
-use mathlib.Core.Path.{_≡_, refl, sym, ap, ap₂, _∙_}
+use mathlib.Core.Path.{_≡_, refl, sym, ap, ap₂, _∙_, subst}
 use mathlib.Core.List.{List, [], _∷_, _++_, append-nil, append-assoc}
 use native.Mathlib.Decide.{decLt}
 use native.Mathlib.Nat.{add-zero, add-suc, zero-add}
@@ -8,11 +8,13 @@ use native.Mathlib.Omega.{arith}
 use lib.Bits.{bitXor}
 use lib.ListN.{length, getD, take, drop, length-append, length-drop, take-append-drop, List·getD-append}
 use lib.Seq.{getD-append-add, length-take-le, take-all}
-use Rattle.octets.specs.Bytes.{be, part}
+use Rattle.octets.specs.Bytes.{Bytes, none, be, part}
+use Rattle.octets.proofs.EveryByte.{append-bytes}
 use Rattle.octets.proofs.Parts.{part-add}
 use Rattle.octets.proofs.Xor.{xor-cancel}
 use Rattle.modes.specs.Xor.{xorBytes}
-use Rattle.panels.specs.CTR.{T, O, C, joined, panelBlocks, ctr}
+use Rattle.modes.proofs.Xor.{xor-bytes}
+use Rattle.panels.specs.CTR.{T, O, C, joined, ctr}
 
 -- ---- bytes added as far as the shorter goes
 
@@ -61,6 +63,11 @@ unfolding joined
 joined-add f m zero = rw (add-zero m, append-nil)
 joined-add f m (suc n) = rw (add-suc m n) (ap (λ (s : List ℕ). s ++ f (m + n)) (joined-add f m n) ∙ append-assoc (joined f m) (joined (λ i. f (m + i)) n) (f (m + n)))
 
+joined-bytes : (f : ℕ → List ℕ) (n : ℕ) → ((i : ℕ) → Bytes (f i)) → Bytes (joined f n)
+unfolding joined
+joined-bytes f zero h = none
+joined-bytes f (suc n) h = append-bytes (joined-bytes f n h) (h n)
+
 module _ (f : ℕ → List ℕ) (eight : (i : ℕ) → length (f i) ≡ 8) where
   pub length-joined : (n : ℕ) → length (joined f n) ≡ 8 * n
   unfolding joined
@@ -95,7 +102,7 @@ module _ (E : List ℕ → List ℕ) where
   pub ctr-wraps : (x y : ℕ) (p : List ℕ) → x ≡ y % 2 ^ 64 → ctr E x p ≡ ctr E y p
   unfolding ctr C O
   ctr-wraps x y p e =
-      joined-same (C E x p) (C E y p) (panelBlocks (length p))
+      joined-same (C E x p) (C E y p) ((length p + 7) / 8)
       (λ i l. ap (λ (t : List ℕ). xorBytes (part p (8 * i) 8) (E t)) (T-same (x + i) (y + i) (omega (arith, e))))
 
 module _ (E : List ℕ → List ℕ) (eight : (x : ℕ) → length (E (T x)) ≡ 8) where
@@ -117,40 +124,42 @@ module _ (E : List ℕ → List ℕ) (eight : (x : ℕ) → length (E (T x)) ≡
 
   -- O_0 ‖ O_1 ‖ …, as many as the panel has blocks
   abbrev pub stream : ℕ → List ℕ → List ℕ
-  stream first p = joined (O E first) (panelBlocks (length p))
+  stream first p = joined (O E first) ((length p + 7) / 8)
 
   pub ctr-stream : (first : ℕ) (p : List ℕ) → ctr E first p ≡ xorBytes p (stream first p)
-  unfolding ctr panelBlocks
+  unfolding ctr
   ctr-stream first p =
       let n : ℕ = (length p + 7) / 8 in
       sym (blocks first p n (omega arith)) ∙ ap (λ (s : List ℕ). xorBytes s (joined (O E first) n)) (take-all (8 * n) p (omega arith))
 
   -- of at most one block
   pub ctr-block : (first : ℕ) (p : List ℕ) → length p ≤ 8 → ctr E first p ≡ xorBytes p (E (T first))
-  unfolding ctr panelBlocks joined O xorBytes
+  unfolding ctr joined O xorBytes
   ctr-block first [] l = refl
   ctr-block first (x ∷ p) l =
       let n : (length (x ∷ p) + 7) / 8 ≡ 1 = omega arith in
       ctr-stream first (x ∷ p) ∙ ap (λ (m : ℕ). xorBytes (x ∷ p) (joined (O E first) m)) n ∙ ap (λ (m : ℕ). xorBytes (x ∷ p) (E (T m))) (add-zero first)
 
   enough : (first : ℕ) (p : List ℕ) → length p ≤ length (stream first p)
-  unfolding panelBlocks
   enough first p = omega (arith, stream-length first ((length p + 7) / 8))
+
+  pub ctr-bytes : (first : ℕ) (p : List ℕ) → ((x : ℕ) → Bytes (E (T x))) → Bytes p → Bytes (ctr E first p)
+  ctr-bytes first p e b = subst Bytes (sym (ctr-stream first p)) (xor-bytes b (joined-bytes (O E first) ((length p + 7) / 8) (λ i. unfold O in e (first + i))))
 
   pub size : (first : ℕ) (p : List ℕ) → length (ctr E first p) ≡ length p
   size first p = ap length (ctr-stream first p) ∙ length-xor p (stream first p) (enough first p)
 
   pub byte : (first : ℕ) (p : List ℕ) (i : ℕ) → i < length p → getD (ctr E first p) i 0 ≡ bitXor (getD p i 0) (getD (O E first (i / 8)) (i % 8) 0)
   byte first p i h =
-      let l : i < 8 * panelBlocks (length p) = omega (arith, enough first p, stream-length first (panelBlocks (length p))) in
+      let l : i < 8 * ((length p + 7) / 8) = omega (arith, enough first p, stream-length first ((length p + 7) / 8)) in
       ap (λ (s : List ℕ). getD s i 0) (ctr-stream first p)
       ∙ getD-xor p (stream first p) i h (omega (arith, enough first p))
-      ∙ ap (bitXor (getD p i 0)) (getD-joined (O E first) (eight-O first) (panelBlocks (length p)) i l)
+      ∙ ap (bitXor (getD p i 0)) (getD-joined (O E first) (eight-O first) ((length p + 7) / 8) i l)
 
   pub twice : (first : ℕ) (p : List ℕ) → ctr E first (ctr E first p) ≡ p
   twice first p =
       ctr-stream first (ctr E first p)
-      ∙ ap₂ (λ (s : List ℕ) (n : ℕ). xorBytes s (joined (O E first) (panelBlocks n))) (ctr-stream first p) (size first p)
+      ∙ ap₂ (λ (s : List ℕ) (n : ℕ). xorBytes s (joined (O E first) ((n + 7) / 8))) (ctr-stream first p) (size first p)
       ∙ xor-xor p (stream first p) (enough first p)
 
   later : (first m j n : ℕ) → j ≡ m → joined (λ i. O E first (j + i)) n ≡ joined (O E (first + m)) n
@@ -159,7 +168,6 @@ module _ (E : List ℕ → List ℕ) (eight : (x : ℕ) → length (E (T x)) ≡
 
   -- m whole blocks, and what follows them from the counter after them
   pub split : (m first : ℕ) (p : List ℕ) → 8 * m ≤ length p → ctr E first p ≡ ctr E first (take (8 * m) p) ++ ctr E (first + m) (drop (8 * m) p)
-  unfolding panelBlocks
   split m first p h =
       let x : List ℕ = take (8 * m) p in
       let y : List ℕ = drop (8 * m) p in

@@ -13,19 +13,15 @@ T x = be 8 (x % 2 ^ 64)
 unfoldable pub O : (List ℕ → List ℕ) → ℕ → ℕ → List ℕ
 O E first i = E (T (first + i))
 
--- C_i = P_i ⊕ O_i: of p the last block may be a part, and is added to the leading bytes of its O
+-- C_i = P_i ⊕ O_i. The last block of x may be a part; it is added to the leading bytes of its O
 unfoldable pub C : (List ℕ → List ℕ) → ℕ → List ℕ → ℕ → List ℕ
-C E first p i = xorBytes (part p (8 * i) 8) (O E first i)
+C E first x i = xorBytes (part x (8 * i) 8) (O E first i)
 
 -- n blocks, one after the other
 unfoldable pub joined : (ℕ → List ℕ) → ℕ → List ℕ
 joined f zero = []
 joined f (suc n) = joined f n ++ f n
 
--- how many blocks a panel of n bytes has, the part counted as one
-unfoldable pub panelBlocks : ℕ → ℕ
-panelBlocks n = (n + 7) / 8
-
--- the panel p under the first number: the same both ways
+-- the panel x under the first number, of (length + 7) / 8 blocks: the same both ways
 unfoldable pub ctr : (List ℕ → List ℕ) → ℕ → List ℕ → List ℕ
-ctr E first p = joined (C E first p) (panelBlocks (length p))
+ctr E first x = joined (C E first x) ((length x + 7) / 8)

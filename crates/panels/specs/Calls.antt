@@ -20,14 +20,14 @@ panelNumber Overlong = 7
 unfoldable pub panelOutcome : PanelAnswer → List ℕ → Outcome
 panelOutcome a bytes = record { number = panelNumber a; len = 0; bytes = bytes }
 
--- the tests, in their order: key k, panel p, output
+-- the tests, in their order: key k, panel x, output
 unfoldable pub panelTests : List ℕ → List ℕ → List ℕ → List (Row PanelAnswer)
-panelTests k p out =
+panelTests k x out =
     (not (keyLength (length k)) gives WrongKey)
-    ∷ (not (eqb (length out) (length p)) gives WrongSpan)
-    ∷ (ltb 65536 (length p) gives Overlong)
+    ∷ (not (eqb (length out) (length x)) gives WrongSpan)
+    ∷ (ltb 65536 (length x) gives Overlong)
     ∷ []
 
 -- a refusal leaves the output as it was. All paths agree; 0 is one of them
 unfoldable pub panelling : List ℕ → ℕ → List ℕ → List ℕ → Outcome
-panelling k first p out = decided (panelTests k p out) (panelOutcome Accepted (ctr (encryptBytes 0 k) first p)) (λ a. panelOutcome a out)
+panelling k first x out = decided (panelTests k x out) (panelOutcome Accepted (ctr (encryptBytes 0 k) first x)) (λ a. panelOutcome a out)
