@@ -5,8 +5,8 @@
 //!
 //! Each call comes in two styles. `Looped` is the baseline: a round a turn, a
 //! block at a time. `SameIdeas` has what the library's speed rests on besides:
-//! the rounds written out, a field's blocks in one walk of the register, and a
-//! written mark's last bytes compared as one number.
+//! the rounds written out, a field's and a panel's blocks in walks of the register,
+//! and a written mark's last bytes compared as one number.
 //!
 //! A read, a dated read and a write test the key mark of edition 3 as the library
 //! does, so that what is compared does the same.

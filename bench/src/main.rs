@@ -34,10 +34,10 @@ The calls of a row are sampled in turn, round by round: {ROUNDS} rounds, samples
 rounds of library / baseline, or library / same ideas. No output feeds the next call;
 arguments and results go through black_box; the buffers are warm. No speed is asserted.
 The same ideas in Rust: the baseline with its rounds written out, a field's blocks
-decrypted in one walk of the register, a mark's last bytes compared as one number, and
-the starts of the months along a line in place of a table. Its register goes through
-black_box for each block encrypted: else the compiler makes the round keys once for a
-message and remembers them, which document 01 rules out.
+decrypted and a panel's encrypted in walks of the register, a mark's last bytes compared
+as one number, and the starts of the months along a line in place of a table. Its
+register goes through black_box for each block or walk encrypted: else the compiler makes
+the round keys once for a message and remembers them, which document 01 rules out.
 Instructions: the library's, and their part of the baseline's, by valgrind."
     );
     let mut meter = Meter::timing();

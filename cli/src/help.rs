@@ -416,9 +416,14 @@ KEYFILE and FIRST opens what is sealed.
 
 The panel's blocks of 8 bytes use the numbers FIRST, FIRST + 1 and so on; after
 18446744073709551615 comes 0. Standard error has the first number that is free
-after them, which the next panel under this key may begin with:
+after them, which the next panel under this key may begin with. A panel of 11
+bytes from the last number, and what is said of it:
 
-    captions: the first free number after this panel is 8192
+    printf 'Bronze Age.' | captions panel wall.key 0xffffffffffffffff >sealed
+    captions: the first free number after this panel is 0x0000000000000001
+
+Under the key 0d2a4764819ebbd8 it is sealed to 3e5bf6b19b65dd4ee9f6f7, in hex:
+eight bytes by the last number, and three by 0.
 
 Never seal two panels under one key from the same numbers: whoever has both has
 what they differ in, and with one of the two texts the other. The command can't
