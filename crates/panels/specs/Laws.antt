@@ -35,6 +35,7 @@ pub record Sealed (p : ℕ) (k : List ℕ) (first : ℕ) (x out : List ℕ) : Ty
   pub size : length ((panelling k first x out) .bytes) ≡ length x
   -- byte i is byte i of the panel exclusive or byte i mod 8 of key block i / 8
   pub byte : (i : ℕ) → i < length x → getD ((panelling k first x out) .bytes) i 0 ≡ bitXor (getD x i 0) (getD (keyBlock p k first (i / 8)) (i % 8) 0)
+  -- and bytes, where the panel is
   pub bytes : Bytes x → Bytes ((panelling k first x out) .bytes)
   -- a second time gives the panel
   pub twice : (out′ : List ℕ) → length out′ ≡ length x → panelling k first ((panelling k first x out) .bytes) out′ ≡ record { number = 0; len = 0; bytes = x }
@@ -87,6 +88,7 @@ pub record Panels : Type 0 where
   pub exactly : (k : List ℕ) (first : ℕ) (x out : List ℕ) → Exactly ((panelling k first x out) .number) (panelClauses k x out)
   -- a refusal leaves the output as it was
   pub refused : (k : List ℕ) (first : ℕ) (x out : List ℕ) → ((panelling k first x out) .number ≡ 0 → ⊥) → Leaves (panelling k first x out) out
+  -- and what the code answers means these numbers
   pub answers : PanelAnswers
   -- a u64 to which d is added n times, wrapping, is first + d × n, wrapped once; the code adds 1 for each block of a walk, and 32 for a walk
   pub advances : (d first n : ℕ) → first < 2 ^ 64 → times n (λ c. (c + d) % 2 ^ 64) first ≡ (first + d * n) % 2 ^ 64
