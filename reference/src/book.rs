@@ -1,6 +1,8 @@
-//! The book, a plain model of a sheet (document 01, "The book of demand 3").
+//! The book, a plain model of a sheet (document 01, "The book of demand 3";
+//! document 02, request 9).
 
-use crate::{Answer, BLANK, NO_SUCH_SLOT, OVERLONG, WORN};
+use crate::text::well_formed;
+use crate::{Answer, BLANK, BROKEN_TEXT, NO_SUCH_SLOT, OVERLONG, WORN};
 use std::collections::BTreeMap;
 
 /// n pages, all blank at first, and a count, 0 at first.
@@ -28,6 +30,8 @@ impl Book {
             NO_SUCH_SLOT
         } else if caption.len() > 192 {
             OVERLONG
+        } else if !well_formed(caption) {
+            BROKEN_TEXT
         } else if self.count == 4294967295 {
             WORN
         } else {

@@ -1,9 +1,9 @@
 //! Second program for mCrypton caption sheets.
 //!
 //! It is written from documents 01 (the scope) and 02 (the change requests, of
-//! them requests 1 to 8), document 000 (the mCrypton paper) and the NIST
-//! standards SP 800-38A (CBC, CTR) and SP 800-38B (CMAC) alone, to be read
-//! beside them and compared with, not to be fast.
+//! them requests 1 to 9), document 000 (the mCrypton paper), the NIST standards
+//! SP 800-38A (CBC, CTR) and SP 800-38B (CMAC) and RFC 3629 (UTF-8) alone, to be
+//! read beside them and compared with, not to be fast.
 //!
 //! Every public function is total: it takes slices of any length and numbers
 //! of any size, and never panics.
@@ -21,6 +21,7 @@ pub mod modes;
 pub mod panel;
 pub mod sheet;
 pub mod terms;
+pub mod text;
 pub mod vectors;
 
 pub use bench::{array_after, bench_block};
@@ -34,6 +35,7 @@ pub use modes::cmac;
 pub use panel::{panel, panel_blocks};
 pub use sheet::{blank, clear, fit, read, store_field, write};
 pub use terms::{dated_read, terms_fit};
+pub use text::{breaks_at, well_formed};
 
 /// What a call hands back: its number (0 when accepted) and a length
 /// (document 01, "The sheet" and "What the kiosk shows instead of a caption").
@@ -165,6 +167,8 @@ pub const NOT_ON_SHOW: u8 = 12;
 pub const NO_SUCH_ROUND: u8 = 13;
 /// The key mark of an edition 3 sheet isn't that of the keys.
 pub const OTHER_KEYS: u8 = 14;
+/// A write of a caption that isn't UTF-8 of RFC 3629.
+pub const BROKEN_TEXT: u8 = 15;
 
 /// Accepted, or a refusal that points to no rule.
 pub const RULE_NONE: u8 = 0;

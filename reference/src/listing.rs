@@ -11,7 +11,8 @@ pub fn listing(sheet: &[u8]) -> Vec<u8> {
     text(sheet).into_bytes()
 }
 
-fn text(sheet: &[u8]) -> String {
+/// The listing as characters.
+pub(crate) fn text(sheet: &[u8]) -> String {
     if sheet.len() > MOST_BYTES {
         return "unfit\n".to_string();
     }

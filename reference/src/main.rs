@@ -1,20 +1,23 @@
 //! Prints vectors, the arrays after each round of a block, every date, the
-//! listing or the first fault of a sheet on standard input, or a panel sealed.
+//! listing or the first fault of a sheet on standard input, a panel sealed, or
+//! whether a text is well formed.
 
 use reference::faults::fault_line;
 use reference::listing::MOST_BYTES;
 use reference::panel::{panel, MOST_PANEL_BYTES};
+use reference::text::text_line;
 use reference::{calendar, listing, vectors, OVERLONG};
 use std::io::{self, stderr, stdin, stdout, Error, Read, Write};
 use std::process::ExitCode;
 
 const USAGE: &str = "\
-usage: reference vectors blocks|keys|bench|cmac|steps|cbc|panel|marks|sheet|faults
+usage: reference vectors blocks|keys|bench|cmac|steps|cbc|panel|marks|sheet|faults|texts
        reference rounds KEY BLOCK
        reference dates
        reference list < sheet
        reference fault < sheet
        reference panel KEY FIRST < panel
+       reference text < text
 ";
 
 /// Why a command fails: a wrong command line, an overlong panel, or input or
@@ -82,11 +85,13 @@ fn run(words: &[&str]) -> Ended {
         ["vectors", "marks"] => vectors::marks(),
         ["vectors", "sheet"] => vectors::sheet(),
         ["vectors", "faults"] => vectors::faults(),
+        ["vectors", "texts"] => vectors::texts(),
         ["rounds", key, block] => vectors::rounds(key, block).ok_or(Failure::Usage)?,
         ["dates"] => calendar::all_dates(),
         ["list"] => return print_of_sheet(listing),
         ["fault"] => return print_of_sheet(|sheet| fault_line(sheet).into_bytes()),
         ["panel", key, first] => return print_sealed(key, first),
+        ["text"] => text_line(&whole_input()?),
         _ => return Err(Failure::Usage),
     };
     print(text.as_bytes())
@@ -103,6 +108,13 @@ fn input(most: usize) -> io::Result<Vec<u8>> {
     let mut bytes = Vec::new();
     let limit = most as u64 + 1;
     stdin().lock().take(limit).read_to_end(&mut bytes)?;
+    Ok(bytes)
+}
+
+/// Standard input to its end.
+fn whole_input() -> io::Result<Vec<u8>> {
+    let mut bytes = Vec::new();
+    stdin().lock().read_to_end(&mut bytes)?;
     Ok(bytes)
 }
 

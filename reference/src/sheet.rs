@@ -1,14 +1,15 @@
 //! The sheet: layout, blanking, writing, clearing, reading (document 01, "The
 //! sheet" and "What the kiosk shows instead of a caption"; document 02, requests
-//! 3, 5 and 7).
+//! 3, 5, 7 and 9).
 
 use crate::cipher::{decrypt, encrypt, Block, Register};
 use crate::faults::{first_fault, Fault};
 use crate::keys::{KeyMark, Pair};
 use crate::modes::{cbc_decrypt, cbc_encrypt, cmac_with};
+use crate::text::well_formed;
 use crate::{
-    refuse_if, Answer, Pointed, Refusal, BLANK, NO_SUCH_SLOT, OVERLONG, UNFIT_SHEET, WORN,
-    WRONG_KEY, WRONG_SPAN,
+    refuse_if, Answer, Pointed, Refusal, BLANK, BROKEN_TEXT, NO_SUCH_SLOT, OVERLONG, UNFIT_SHEET,
+    WORN, WRONG_KEY, WRONG_SPAN,
 };
 use std::array::from_fn;
 use std::ops::Range;
@@ -240,8 +241,7 @@ fn start_block(sealing_key: Register, header: &Header, write_number: u32, slot: 
     encrypt(sealing_key, [a, b, c, d, e, f, g, h])
 }
 
-/// The caption followed by zero bytes up to 192; of one above 192 bytes, which
-/// is refused, the first 192.
+/// The caption, of at most 192 bytes, followed by zero bytes up to 192.
 fn plain_field(caption: &[u8]) -> [u8; FIELD] {
     from_fn(|i| caption.get(i).copied().unwrap_or(0))
 }
@@ -326,7 +326,7 @@ struct Written {
     field: Vec<u8>,
 }
 
-/// Writing a caption into a slot. Refusals 1, 2, 4, 5, 14, 6, 7, 8, in that
+/// Writing a caption into a slot. Refusals 1, 2, 4, 5, 14, 6, 7, 15, 8, in that
 /// order; 4 points to the sheet's first fault.
 pub fn write(
     sealing_key: &[u8],
@@ -335,21 +335,16 @@ pub fn write(
     slot: usize,
     caption: &[u8],
 ) -> Pointed {
-    let plain = plain_field(caption);
-    let tested = tested_write(
-        sealing_key,
-        checking_key,
-        sheet,
-        slot,
-        caption.len(),
-        &plain,
-    );
+    let tested = tested_write(sealing_key, checking_key, sheet, slot, caption);
     answer_write(tested, sheet, slot)
 }
 
 /// A tool for tests: a write whose 192 plain bytes are given whole and sealed as
 /// they are, so that a slot with a true check may have set bytes at or past its
-/// length. Refusals as for a write, 7 for a length above 192.
+/// length. It also makes old sheets: with a caption of any bytes, zeros after it
+/// and its length it stores what a write did before request 9, on any edition.
+/// Refusals as for a write, 7 for a length above 192, but for 15, which it never
+/// tests.
 pub fn store_field(
     sealing_key: &[u8],
     checking_key: &[u8],
@@ -358,8 +353,7 @@ pub fn store_field(
     length: u16,
     field: &[u8; FIELD],
 ) -> Answer {
-    let length = usize::from(length);
-    let tested = tested_write(sealing_key, checking_key, sheet, slot, length, field);
+    let tested = tested_field(sealing_key, checking_key, sheet, slot, length, field);
     answer_write(tested, sheet, slot).answer()
 }
 
@@ -381,18 +375,53 @@ fn tested_write(
     checking_key: &[u8],
     sheet: &[u8],
     slot: usize,
-    length: usize,
+    caption: &[u8],
+) -> Result<Written, Refusal> {
+    let (pair, header) = tested_place(sealing_key, checking_key, sheet, slot, caption.len())?;
+    refuse_if(!well_formed(caption), BROKEN_TEXT)?;
+    let plain = plain_field(caption);
+    written(&pair, header, slot, caption.len() as u16, &plain)
+}
+
+fn tested_field(
+    sealing_key: &[u8],
+    checking_key: &[u8],
+    sheet: &[u8],
+    slot: usize,
+    length: u16,
     plain: &[u8; FIELD],
 ) -> Result<Written, Refusal> {
+    let bytes = usize::from(length);
+    let (pair, header) = tested_place(sealing_key, checking_key, sheet, slot, bytes)?;
+    written(&pair, header, slot, length, plain)
+}
+
+/// Tests 1, 2, 4, 5, 14, 6 and 7 of a write.
+fn tested_place(
+    sealing_key: &[u8],
+    checking_key: &[u8],
+    sheet: &[u8],
+    slot: usize,
+    length: usize,
+) -> Result<(Pair, Header), Refusal> {
     let pair = Pair::tested(sealing_key, checking_key)?;
     let header = tested_header(sheet)?;
     pair.test_class(header.t)?;
     pair.test_mark(&header)?;
     refuse_if(slot >= header.n, NO_SUCH_SLOT)?;
     refuse_if(length > FIELD, OVERLONG)?;
-    let write_number = header.w.checked_add(1).ok_or(WORN)?;
+    Ok((pair, header))
+}
 
-    let length = length as u16;
+/// Test 8, and what is stored under the next write number.
+fn written(
+    pair: &Pair,
+    header: Header,
+    slot: usize,
+    length: u16,
+    plain: &[u8; FIELD],
+) -> Result<Written, Refusal> {
+    let write_number = header.w.checked_add(1).ok_or(WORN)?;
     let start = start_block(pair.sealing, &header, write_number, slot);
     let field = sealed_field(pair.sealing, start, plain);
     let mark = Mark {

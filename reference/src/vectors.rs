@@ -7,6 +7,7 @@ use crate::keys::mark_block;
 use crate::modes::{cbc_decrypt, cbc_encrypt, cmac, cmac_steps};
 use crate::panel::panel;
 use crate::sheet::Edition;
+use crate::text::{breaks_at, encode, well_formed};
 use crate::{blank, cipher, clear, key_mark, listing, read, write, Answer, Pointed};
 
 /// The values of t.
@@ -27,6 +28,14 @@ fn key(t: usize, s: usize) -> Vec<u8> {
 /// The text of a length with number s.
 fn text(s: usize, length: usize) -> Vec<u8> {
     ramp(53, 31 * s + 7, length)
+}
+
+/// The caption of a length with number s: characters from space to tilde, so
+/// that it is well formed at every length.
+fn caption(s: usize, length: usize) -> Vec<u8> {
+    (0..length)
+        .map(|i| (32 + (53 * i + 31 * s + 7) % 95) as u8)
+        .collect()
 }
 
 /// Lower-case hex.
@@ -315,20 +324,20 @@ fn list_of_calls(t: usize, origin: &str, answer: Answer, mut sheet: Vec<u8>) -> 
         lines += &read_line(&sealing, &checking, &sheet, slot);
     }
     lines += &read_line(&sealing, &sealing, &sheet, 1);
-    lines + &String::from_utf8_lossy(&listing(&sheet))
+    lines + &listing::text(&sheet)
 }
 
 /// Writes of the empty caption, two long ones and one in a written slot.
 fn accepted_writes(sealing_key: &[u8], checking_key: &[u8], sheet: &mut [u8]) -> String {
-    let seventeen = ramp(53, 7, 17);
-    let longest = ramp(31, 5, 192);
+    let seventeen = caption(0, 17);
+    let longest = caption(1, 192);
     let writes: [(usize, &[u8]); 4] = [(0, b""), (1, &seventeen), (2, &longest), (1, b"abc")];
     write_lines(sealing_key, checking_key, sheet, &writes)
 }
 
 /// A write past the last slot and one of an overlong caption.
 fn refused_writes(sealing_key: &[u8], checking_key: &[u8], sheet: &mut [u8]) -> String {
-    let overlong = ramp(31, 5, 193);
+    let overlong = caption(1, 193);
     let writes: [(usize, &[u8]); 2] = [(3, b"abc"), (2, &overlong)];
     write_lines(sealing_key, checking_key, sheet, &writes)
 }
@@ -398,7 +407,13 @@ pub fn faults() -> String {
 fn flipped_reads(edition: Edition, t: usize, mut sheet: Vec<u8>) -> String {
     let (sealing, checking) = list_keys(t);
     for (slot, length) in [(0, 5), (1, 17), (2, 192)] {
-        write(&sealing, &checking, &mut sheet, slot, &text(slot, length));
+        write(
+            &sealing,
+            &checking,
+            &mut sheet,
+            slot,
+            &caption(slot, length),
+        );
     }
     clear(&mut sheet, 1);
     let mut lines = format!("sheet {} {t}", edition.number());
@@ -429,4 +444,147 @@ fn pointed_fields(pointed: Pointed) -> String {
         "{} {} {} {}",
         pointed.number, pointed.rule, pointed.slot, pointed.place
     )
+}
+
+/// The examples of RFC 3629, section 7.
+const SECTION_7: [&str; 4] = [
+    "41e289a2ce912e",
+    "ed959ceab5adec96b4",
+    "e697a5e69cace8aa9e",
+    "efbbbff0a38eb4",
+];
+
+/// Character numbers on each side of each edge, and U+FEFF, which is a letter
+/// anywhere. U+FFFE, U+FFFF and so on are noncharacters, and well formed.
+const EDGE_NUMBERS: [u32; 29] = [
+    0x0, 0x1, 0x7f, 0x80, 0xbf, 0xc0, 0x7ff, 0x800, 0xfff, 0x1000, 0xcfff, 0xd000, 0xd7ff, 0xe000,
+    0xfdd0, 0xfeff, 0xfffd, 0xfffe, 0xffff, 0x10000, 0x1fffe, 0x1ffff, 0x3ffff, 0x40000, 0xfffff,
+    0x100000, 0x10fffd, 0x10fffe, 0x10ffff,
+];
+
+/// Overlong forms, surrogates, numbers above U+10FFFF, the forms of five and six
+/// octets that RFC 2279 had, and bytes that begin nothing.
+const REFUSED: [&str; 31] = [
+    "c080",
+    "c0af",
+    "c1bf",
+    "e08080",
+    "e080af",
+    "e081bf",
+    "e09fbf",
+    "f0808080",
+    "f08080af",
+    "f080dfbf",
+    "f0808fbf",
+    "f08fbfbf",
+    "eda080",
+    "edafbf",
+    "edb080",
+    "edbfbf",
+    "eda080edb080",
+    "edafbfedbfbf",
+    "f4908080",
+    "f4bfbfbf",
+    "f5808080",
+    "f7bfbfbf",
+    "f888808080",
+    "fbbfbfbfbf",
+    "fc8480808080",
+    "fdbfbfbfbfbf",
+    "feff",
+    "fffe",
+    "bf80",
+    "c3a9a9",
+    "f09d849e80",
+];
+
+/// First octets on each side of each edge, with how many octets they call for.
+const EDGE_LEADS: [(u8, usize); 19] = [
+    (0xc0, 2),
+    (0xc1, 2),
+    (0xc2, 2),
+    (0xdf, 2),
+    (0xe0, 3),
+    (0xe1, 3),
+    (0xec, 3),
+    (0xed, 3),
+    (0xee, 3),
+    (0xef, 3),
+    (0xf0, 4),
+    (0xf1, 4),
+    (0xf3, 4),
+    (0xf4, 4),
+    (0xf5, 4),
+    (0xf7, 4),
+    (0xf8, 5),
+    (0xfc, 6),
+    (0xff, 6),
+];
+
+/// Second octets on each side of each edge.
+const EDGE_SECONDS: [u8; 10] = [0x00, 0x7f, 0x80, 0x8f, 0x90, 0x9f, 0xa0, 0xbf, 0xc0, 0xff];
+
+/// What stands behind good characters, to end a text about its 192nd byte.
+const ENDS: [&str; 21] = [
+    "", "80", "bf", "c0", "c3", "e2", "f0", "f5", "ff", "c3a9", "c328", "e282", "eda0", "f09d",
+    "e282ac", "e28228", "eda080", "f09d84", "f09d849e", "f09d8428", "f4908080",
+];
+
+/// Text (hex or "-"), 1 if it is well formed and 0 if not, the place at which it
+/// breaks.
+pub fn texts() -> String {
+    let line = |text: &Vec<u8>| {
+        let well = u8::from(well_formed(text));
+        format!("{} {well} {}\n", hex_or_dash(text), breaks_at(text))
+    };
+    list_of_texts().iter().map(line).collect()
+}
+
+fn list_of_texts() -> Vec<Vec<u8>> {
+    let of_hex = |digits: &&str| bytes_of_hex(digits).unwrap_or_default();
+    let mut texts = vec![Vec::new()];
+    texts.extend(SECTION_7.iter().map(of_hex));
+    texts.extend(EDGE_NUMBERS.into_iter().flat_map(letter_and_cuts));
+    texts.extend(REFUSED.iter().map(of_hex).flat_map(beginnings));
+    texts.extend((0..=255).map(|byte| vec![byte]));
+    texts.extend(EDGE_LEADS.into_iter().flat_map(with_each_second));
+    texts.extend(ENDS.iter().map(of_hex).flat_map(about_192_bytes));
+    texts
+}
+
+/// A letter; it cut short anywhere, at the end of a text and before a character.
+fn letter_and_cuts(number: u32) -> Vec<Vec<u8>> {
+    let letter = encode(number).unwrap_or_default();
+    let cuts = (1..letter.len()).map(|length| letter[..length].to_vec());
+    let ends = cuts.flat_map(|cut| [cut.clone(), [&cut[..], b"a"].concat()]);
+    let mut texts: Vec<Vec<u8>> = ends.collect();
+    texts.insert(0, letter);
+    texts
+}
+
+/// The beginnings of a text, the whole text last.
+fn beginnings(text: Vec<u8>) -> Vec<Vec<u8>> {
+    (1..=text.len())
+        .map(|length| text[..length].to_vec())
+        .collect()
+}
+
+/// A first octet with each second one, and as many following ones as it wants.
+fn with_each_second((lead, octets): (u8, usize)) -> Vec<Vec<u8>> {
+    let whole = |second| [&[lead, second][..], &vec![0x80; octets - 2]].concat();
+    EDGE_SECONDS.map(whole).to_vec()
+}
+
+/// An end behind good characters, in a text of 191, 192 and 193 bytes, then one
+/// of 192 bytes that begins with it and one that has it in its middle.
+fn about_192_bytes(end: Vec<u8>) -> Vec<Vec<u8>> {
+    let good = |length: usize| caption(2, length - end.len());
+    let (before, after) = (caption(3, 90), caption(4, 102 - end.len()));
+    vec![
+        [&good(191)[..], &end].concat(),
+        [&good(192)[..], &end].concat(),
+        [&good(193)[..], &end].concat(),
+        [&end[..], &good(192)].concat(),
+        [&before[..], &end, &after].concat(),
+    ]
 }

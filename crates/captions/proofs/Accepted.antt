@@ -23,7 +23,7 @@ module _ (e : Edition) (x : Ciphers) (k : Keys) (s : List ℕ) (i : ℕ) where
   unfolding writingWith writeTests keyTests sheetTests classTests captionTests outcome answerNumber Refuses
   zero-write c =
       decided-zero answerNumber (λ (o : Outcome). o .number) _ _ refl (λ a. refl) (λ o. o ≡ outcome (Accepted 0) (written x e s i c)) refl _
-      ((λ q. omega (arith, q)), ((λ q. omega (arith, q)), ((λ q. omega (arith, q)), ((λ q. omega (arith, q)), ((λ q. omega (arith, q)), ((λ q. omega (arith, q)), ((λ q. omega (arith, q)), ((λ q. omega (arith, q)), tt))))))))
+      ((λ q. omega (arith, q)), ((λ q. omega (arith, q)), ((λ q. omega (arith, q)), ((λ q. omega (arith, q)), ((λ q. omega (arith, q)), ((λ q. omega (arith, q)), ((λ q. omega (arith, q)), ((λ q. omega (arith, q)), ((λ q. omega (arith, q)), tt)))))))))
 
 module _ (e : Edition) (s : List ℕ) (i : ℕ) where
   pub zero-clear : (clearingWith e s i) .number ≡ 0 → clearingWith e s i ≡ outcome (Accepted 0) (cleared e s i)

@@ -14,3 +14,4 @@ pub mod BlankSheets
 pub mod KeyMark
 pub mod Refusals
 pub mod Starts
+pub mod Texts

@@ -15,6 +15,8 @@ use Rattle.octets.specs.Clauses.{Exactly, OneOf, Each, none, and}
 use Rattle.octets.proofs.Clauses.{Reflects, reflects-not, reflects-and, reflects-or, reflects-as, reflects-eqb, reflects-three, reflects-leb, reflects-ltb, reflects-same, Means, Refuses, decided-exactly, decided-refused, decided-zero}
 use Rattle.octets.proofs.Compare.{same-is, same-eq}
 use Rattle.octets.proofs.Zeros.{allZero-is, getD-zeros}
+use Rattle.text.specs.Grammar.{forms, inside, after, some, meets, wellFormed}
+use Rattle.text.proofs.Grammar.{reflects-utf8}
 use Rattle.cipher.specs.Key.{mcryptonClass, classKnown, keyBytes, sheetKeyLength}
 use Rattle.layout.specs.Layout.{Edition, newEdition, editionOf, rule1, rule3, slots, keyClass, editionByte, lastWrite, serial, storedMark, slotCount, sheetSize, markAt, fieldAt, markNumber, markLength, markCheck, mark, field, blankSlot, fitSlot, fitIn, fit, blankSheet}
 use Rattle.layout.specs.Rules.{Words, MeetsLayout}
@@ -27,7 +29,7 @@ use Rattle.captions.specs.Calls.{wrongKeys, otherClass, keyTests, captio
 use Rattle.captions.specs.Refusals.{RightKeys, RightWords, OtherMark, IsAltered, check-differs, byte-left, writeClauses, clearClauses, readClauses, blankClauses, Leaves, WriteOf, ClearOf, ReadOf, BlankOf, SheetRefusals}
 use Rattle.captions.proofs.Accepted.{zero-read, zero-write, zero-clear, zero-blank}
 use Rattle.captions.specs.declared.Answer.{Answer}
-use Rattle.captions.specs.declared.Answer.the-variants.{Accepted, WrongKey, TwinKeys, WrongSpan, UnfitSheet, OtherKeyClass, NoSuchSlot, Overlong, Worn, Blank, Altered, OtherKeys}
+use Rattle.captions.specs.declared.Answer.the-variants.{Accepted, WrongKey, TwinKeys, WrongSpan, UnfitSheet, OtherKeyClass, NoSuchSlot, Overlong, Worn, Blank, Altered, OtherKeys, BrokenText}
 
 -- ---- the keys
 
@@ -131,7 +133,7 @@ write-means k s i c = (
               reflects-ltb 192 (length c),
               refl,
               λ t₇.
-                  (reflects-eqb (lastWrite s) 4294967295, refl, λ t₈. tt),
+                  (reflects-not (reflects-utf8 c), refl, λ t₁₅. (reflects-eqb (lastWrite s) 4294967295, refl, λ t₈. tt)),
             ),
           ),
         ),
@@ -224,6 +226,7 @@ refusal-length Worn h = refl
 refusal-length Blank h = refl
 refusal-length (Altered i c) h = refl
 refusal-length OtherKeys h = refl
+refusal-length BrokenText h = refl
 
 pub leaves : (a : Answer) (bytes : List ℕ) → (answerNumber a ≡ 0 → ⊥) → Leaves (outcome a bytes) bytes
 unfolding outcome
@@ -338,8 +341,8 @@ pub other-reads : (reading (keys-of 8) (keyed-with other) 0 (zeros 192)) .number
 unfolding other
 other-reads = other-read other (unlike-differs own-mark)
 
-every-write : Each WriteOf (0 ∷ 1 ∷ 2 ∷ 4 ∷ 5 ∷ 14 ∷ 6 ∷ 7 ∷ 8 ∷ [])
-unfolding other sheet-with keys-of writing writingWith writeTests keyTests sheetTests classTests captionTests decided outcome answerNumber wrongKeys otherClass otherKeys sheetKeyLength keyBytes mcryptonClass same number zeros be allZero allBelow slots keyClass editionByte lastWrite rule1 editionOf sheetSize markAt fieldAt slotCount mark field blankSlot fitSlot fitIn
+every-write : Each WriteOf (0 ∷ 1 ∷ 2 ∷ 4 ∷ 5 ∷ 14 ∷ 6 ∷ 7 ∷ 15 ∷ 8 ∷ [])
+unfolding forms inside after some meets wellFormed other sheet-with keys-of writing writingWith writeTests keyTests sheetTests classTests captionTests decided outcome answerNumber wrongKeys otherClass otherKeys sheetKeyLength keyBytes mcryptonClass same number zeros be allZero allBelow slots keyClass editionByte lastWrite rule1 editionOf sheetSize markAt fieldAt slotCount mark field blankSlot fitSlot fitIn
 every-write =
     and (record { keys = keys-of 8; sheet = sheet-with 0; slot = 0; caption = []; answers = refl })
     (and (record { keys = keys-of 7; sheet = []; slot = 0; caption = []; answers = refl })
@@ -349,8 +352,9 @@ every-write =
     (and (record { keys = keys-of 8; sheet = keyed-with other; slot = 0; caption = []; answers = other-write other (unlike-differs own-mark) })
     (and (record { keys = keys-of 8; sheet = sheet-with 0; slot = 1; caption = []; answers = refl })
     (and (record { keys = keys-of 8; sheet = sheet-with 0; slot = 0; caption = zeros 193; answers = refl })
+    (and (record { keys = keys-of 8; sheet = sheet-with 0; slot = 0; caption = 0xC3 ∷ []; answers = refl })
     (and (record { keys = keys-of 8; sheet = sheet-with 4294967295; slot = 0; caption = []; answers = refl })
-    none))))))))
+    none)))))))))
 
 every-clear : Each ClearOf (0 ∷ 4 ∷ 6 ∷ [])
 unfolding sheet-with clearing clearingWith clearTests decided outcome answerNumber number zeros be allZero allBelow slots keyClass editionByte lastWrite rule1 mcryptonClass editionOf sheetSize markAt fieldAt slotCount mark field blankSlot fitSlot fitIn

@@ -13,6 +13,7 @@ use lib.Seq.{getD-set-same, getD-set-other}
 use borrow.Author.Tests.{leb-false, ltb-false, eqb-false}
 use Rattle.octets.specs.Bytes.{if_then_else_, Bytes, zeros, same}
 use Rattle.octets.specs.Outcome.{decided}
+use Rattle.text.specs.Grammar.{wellFormed}
 use Rattle.layout.specs.Layout.{Edition, slots, lastWrite, fitIn}
 use Rattle.captions.specs.Answers.{Outcome, answerNumber, answerLength, outcome}
 use Rattle.captions.specs.Captions.{Keys, Ciphers, otherKeys, written, cleared}
@@ -22,7 +23,7 @@ use Rattle.captions.specs.Model.{Call, writes, clears, Page, blank, hold
 use Rattle.captions.specs.Turns.{Turn, own, stranger, ownCalls, EachStranger, none as no-stranger, past, met, turnModel}
 use Rattle.captions.specs.Claim.{stepped, stepWith, Captions, none, write, clear, AskedOfCalls, shown, SameHeader, Regular, Sound, Fits, TurnedDown, SheetsFollowModel}
 use Rattle.captions.specs.declared.Answer.{Answer}
-use Rattle.captions.specs.declared.Answer.the-variants.{Accepted, WrongKey, TwinKeys, OtherKeyClass, NoSuchSlot, Overlong, Worn, OtherKeys}
+use Rattle.captions.specs.declared.Answer.the-variants.{Accepted, WrongKey, TwinKeys, OtherKeyClass, NoSuchSlot, Overlong, Worn, OtherKeys, BrokenText}
 use Rattle.captions.proofs.Runs.{Every, done, more, same-replies, related-finally}
 use Rattle.captions.proofs.Tables.{end, next, unmet-append, past-rows, row-beside, rows-end}
 use Rattle.captions.proofs.Store.{header-refl, header-trans, slots-kept}
@@ -107,6 +108,7 @@ module _ (e : Edition) (reg : Regular e) (x : Ciphers) (ok : Sound x) (k : Keys)
       (unmet-append (keys-passed e x k s (r .fits .passes)) (next (ap not (r .fits .fits)) (classes-passed e x k s (r .fits .passes))))
       (row-beside (Follows e x k s₀) (leb (slots s) i) (leb (length (m .pages)) i) NoSuchSlot _ _ _ _ _ (slot-test i) (refused NoSuchSlot 6 refl refl) λ t₆.
       row-beside (Follows e x k s₀) (ltb 192 (length c)) (ltb 192 (length c)) Overlong _ _ _ _ _ refl (refused Overlong 7 refl refl) λ t₇.
+      row-beside (Follows e x k s₀) (not (wellFormed c)) (not (wellFormed c)) BrokenText _ _ _ _ _ refl (refused BrokenText 15 refl refl) λ t₁₅.
       row-beside (Follows e x k s₀) (eqb (lastWrite s) 4294967295) (eqb (m .count) 4294967295) Worn _ _ _ _ _ worn-test (refused Worn 8 refl refl) λ t₈.
       let h : i < slots s = omega (arith, leb-false (length (m .pages)) i t₆, r .pages) in
       let left : lastWrite s < 4294967295 = lt-of-le-ne (last-small e x k s (r .fits)) (λ q. eqb-false (m .count) 4294967295 t₈ (sym (r .last) ∙ q)) in

@@ -21,7 +21,7 @@ use Rattle.captions.specs.Captions.{Keys, Ciphers, sealedField, slotMark
 use Rattle.captions.specs.Calls.{keyTests, otherClass, classTests, sheetTests, captionTests, writeTests, clearTests, writingWith, clearingWith}
 use Rattle.captions.specs.Claim.{SameHeader, Regular, Sound}
 use Rattle.captions.specs.declared.Answer.{Answer}
-use Rattle.captions.specs.declared.Answer.the-variants.{Accepted, WrongKey, TwinKeys, UnfitSheet, OtherKeyClass, NoSuchSlot, Overlong, Worn, OtherKeys}
+use Rattle.captions.specs.declared.Answer.the-variants.{Accepted, WrongKey, TwinKeys, UnfitSheet, OtherKeyClass, NoSuchSlot, Overlong, Worn, OtherKeys, BrokenText}
 use Rattle.captions.proofs.Tables.{Unmet, end, next, decided-accepted}
 use Rattle.captions.proofs.Accepted.{zero-write, zero-clear}
 use Rattle.captions.proofs.Store.{Stored, store-slot, store-last}
@@ -74,11 +74,11 @@ accepted-write e x k s i c h = go unmet
     unmet =
         decided-accepted (writeTests e x k s i c) (outcome (Accepted 0) (written x e s i c)) (λ a. outcome a s) (outcome (Accepted 0) (written x e s i c))
         (next (no WrongKey (lit≤ tt)) (next (no TwinKeys (lit≤ tt)) (next (no (UnfitSheet (firstFault s)) (lit≤ tt)) (next (no OtherKeyClass (lit≤ tt))
-        (next (no OtherKeys (lit≤ tt)) (next (no NoSuchSlot (lit≤ tt)) (next (no Overlong (lit≤ tt)) (next (no Worn (lit≤ tt)) end))))))))
+        (next (no OtherKeys (lit≤ tt)) (next (no NoSuchSlot (lit≤ tt)) (next (no Overlong (lit≤ tt)) (next (no BrokenText (lit≤ tt)) (next (no Worn (lit≤ tt)) end)))))))))
         (zero-write e x k s i c h)
 
     go : Unmet (writeTests e x k s i c) → Wrote e x k s i c
-    go (next t₁ (next t₂ (next t₄ (next t₅ (next t₁₄ (next t₆ (next t₇ (next t₈ end)))))))) =
+    go (next t₁ (next t₂ (next t₄ (next t₅ (next t₁₄ (next t₆ (next t₇ (next t₁₅ (next t₈ end))))))))) =
         record {
           keys = next t₁ (next t₂ end);
           fits = not-false (fitIn e s) t₄;

@@ -1,4 +1,4 @@
--- The answers of the calls on a sheet: their numbers, words and lengths (document 01, "What the kiosk shows instead of a caption", and document 02, request 7), and what they point at (request 5).
+-- The answers of the calls on a sheet: their numbers, words and lengths (document 01, "What the kiosk shows instead of a caption", and document 02, requests 7 and 9), and what they point at (request 5).
 use Prim.Native.Nat.{ℕ}
 use mathlib.Core.List.{List}
 use Rattle.octets.specs.Outcome.{Row, decided}
@@ -6,7 +6,7 @@ use Rattle.faults.specs.Faults.{Point, point, faultPoint}
 use Rattle.captions.specs.declared.Change.{Change}
 use Rattle.captions.specs.declared.Change.the-variants.{Check, Byte}
 use Rattle.captions.specs.declared.Answer.{Answer}
-use Rattle.captions.specs.declared.Answer.the-variants.{Accepted, WrongKey, TwinKeys, WrongSpan, UnfitSheet, OtherKeyClass, NoSuchSlot, Overlong, Worn, Blank, Altered, OtherKeys}
+use Rattle.captions.specs.declared.Answer.the-variants.{Accepted, WrongKey, TwinKeys, WrongSpan, UnfitSheet, OtherKeyClass, NoSuchSlot, Overlong, Worn, Blank, Altered, OtherKeys, BrokenText}
 use Rattle.captions.specs.declared.Verdict.{Verdict}
 use Rattle.captions.specs.declared.Verdict.the-variants.{Pass, Refuse}
 
@@ -31,6 +31,7 @@ answerNumber Worn = 8
 answerNumber Blank = 9
 answerNumber (Altered i c) = 10
 answerNumber OtherKeys = 14
+answerNumber BrokenText = 15
 
 -- the paper's length of each answer: 0 except for an accepted read
 unfoldable pub answerLength : Answer → ℕ
@@ -46,6 +47,7 @@ answerLength Worn = 0
 answerLength Blank = 0
 answerLength (Altered i c) = 0
 answerLength OtherKeys = 0
+answerLength BrokenText = 0
 
 -- what differs in slot i
 unfoldable pub changePoint : ℕ → Change → Point
@@ -66,6 +68,7 @@ answerPoint Worn = point 0 0 0
 answerPoint Blank = point 0 0 0
 answerPoint (Altered i c) = changePoint i c
 answerPoint OtherKeys = point 0 0 0
+answerPoint BrokenText = point 0 0 0
 
 -- an answer and the lent bytes after the call
 unfoldable pub outcome : Answer → List ℕ → Outcome

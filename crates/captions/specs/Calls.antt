@@ -6,13 +6,14 @@ use lib.Dec.{eqb, leb, ltb}
 use lib.ListN.{length}
 use Rattle.octets.specs.Bytes.{zeros, same}
 use Rattle.octets.specs.Outcome.{Row, _gives_, decided}
+use Rattle.text.specs.Grammar.{wellFormed}
 use Rattle.cipher.specs.Key.{classKnown, keyBytes, sheetKeyLength}
 use Rattle.layout.specs.Layout.{Edition, newEdition, editionOf, slots, keyClass, lastWrite, sheetSize, slotCount, markLength, mark, blankSlot, fitIn, blankSheet}
 use Rattle.faults.specs.Faults.{firstFault}
 use Rattle.captions.specs.Answers.{Outcome, outcome}
 use Rattle.captions.specs.Captions.{Keys, Ciphers, loadedFor, keyMark, otherKeys, written, cleared, opened, altered, change}
 use Rattle.captions.specs.declared.Answer.{Answer}
-use Rattle.captions.specs.declared.Answer.the-variants.{Accepted, WrongKey, TwinKeys, WrongSpan, UnfitSheet, OtherKeyClass, NoSuchSlot, Overlong, Worn, Blank, Altered, OtherKeys}
+use Rattle.captions.specs.declared.Answer.the-variants.{Accepted, WrongKey, TwinKeys, WrongSpan, UnfitSheet, OtherKeyClass, NoSuchSlot, Overlong, Worn, Blank, Altered, OtherKeys, BrokenText}
 
 -- ---- the tests
 
@@ -50,10 +51,11 @@ markRow x e s = otherKeys x e s gives OtherKeys
 abbrev pub slotRow : List ℕ → ℕ → Row Answer
 slotRow s i = leb (slots s) i gives NoSuchSlot
 
--- 7 and 8, of a caption for a sheet
+-- 7, 15 and 8, of a caption for a sheet
 unfoldable pub captionTests : List ℕ → List ℕ → List (Row Answer)
 captionTests s c =
     (ltb 192 (length c) gives Overlong)
+    ∷ (not (wellFormed c) gives BrokenText)
     ∷ (eqb (lastWrite s) 4294967295 gives Worn)
     ∷ []
 
@@ -79,7 +81,7 @@ module _ (e : Edition) (x : Ciphers) where
   unfoldable pub sheetTests : Keys → List ℕ → ℕ → List (Row Answer)
   sheetTests k s i = unfitRow e s ∷ (classTests k s ++ (slotRow s i ∷ []))
 
-  -- write: 1 2 4 5 14 6 7 8
+  -- write: 1 2 4 5 14 6 7 15 8
   unfoldable pub writeTests : Keys → List ℕ → ℕ → List ℕ → List (Row Answer)
   writeTests k s i c = keyTests k ++ (sheetTests k s i ++ captionTests s c)
 

@@ -1,9 +1,11 @@
 -- The plain model of a sheet (document 01: the book), fed the count of slots and the calls, nothing else.
 use Prim.Native.Nat.{ℕ, _+_}
 use mathlib.Core.List.{List}
+use mathlib.Core.Bool.{not}
 use lib.Dec.{leb, ltb, eqb}
 use lib.ListN.{length, getD, set, replicate}
 use Rattle.octets.specs.Bytes.{if_then_else_}
+use Rattle.text.specs.Grammar.{wellFormed}
 use Rattle.captions.specs.Runs.{Reply}
 
 -- a write of a caption to a slot, or a clear of a slot
@@ -34,6 +36,7 @@ unfoldable pub modelStep : Call → Model → Reply × Model
 modelStep (writes i c) m =
     if leb (length (m .pages)) i then (answered 6, m) else
     if ltb 192 (length c) then (answered 7, m) else
+    if not (wellFormed c) then (answered 15, m) else
     if eqb (m .count) 4294967295 then (answered 8, m) else
     (answered 0, record { pages = set (m .pages) i (holds c); count = m .count + 1 })
 modelStep (clears i) m =

@@ -5,6 +5,7 @@ use mathlib.Core.List.{List, [], _∷_}
 use lib.ListN.{length, getD}
 use Rattle.octets.specs.Bytes.{zeros}
 use Rattle.octets.specs.Clauses.{Clause, _when_, Exactly, OneOf, Each}
+use Rattle.text.specs.Grammar.{UTF8}
 use Rattle.cipher.specs.Key.{keyBytes}
 use Rattle.layout.specs.Layout.{Edition, editionOf, slots, keyClass, editionByte, lastWrite, storedMark, markNumber, markLength, markCheck, mark, field, blankSheet}
 use Rattle.layout.specs.Rules.{IsBlank, MeetsLayout}
@@ -47,6 +48,7 @@ writeClauses k s i c =
     ∷ (14 when OtherMark (loadedFor (keyClass s) k) s)
     ∷ (6 when (slots s ≤ i))
     ∷ (7 when (192 < length c))
+    ∷ (15 when (UTF8 c → ⊥))
     ∷ (8 when (lastWrite s ≡ 4294967295))
     ∷ []
 
@@ -133,7 +135,7 @@ pub record SheetRefusals : Type 0 where
   pub accepted-write : (k : Keys) (s : List ℕ) (i : ℕ) (c : List ℕ) → (writing k s i c) .number ≡ 0 → (writing k s i c) .len ≡ 0
   pub accepted-clear : (s : List ℕ) (i : ℕ) → (clearing s i) .number ≡ 0 → (clearing s i) .len ≡ 0
   -- each number that rests on no cipher, and 14, is met here; whole calls, an accepted read and those that answer 10 among them, are in crates/exhibits
-  pub writes : Each WriteOf (0 ∷ 1 ∷ 2 ∷ 4 ∷ 5 ∷ 14 ∷ 6 ∷ 7 ∷ 8 ∷ [])
+  pub writes : Each WriteOf (0 ∷ 1 ∷ 2 ∷ 4 ∷ 5 ∷ 14 ∷ 6 ∷ 7 ∷ 15 ∷ 8 ∷ [])
   pub clears : Each ClearOf (0 ∷ 4 ∷ 6 ∷ [])
   pub reads : Each ReadOf (1 ∷ 2 ∷ 3 ∷ 4 ∷ 5 ∷ 14 ∷ 6 ∷ 9 ∷ [])
   pub blanks : Each BlankOf (0 ∷ 1 ∷ 2 ∷ 3 ∷ 5 ∷ [])

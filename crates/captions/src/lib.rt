@@ -21,6 +21,7 @@ pub enum Answer {
     Blank,
     Altered(u16, Change),
     OtherKeys,
+    BrokenText,
 }
 
 // What a table of tests comes to.

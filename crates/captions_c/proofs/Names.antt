@@ -8,6 +8,8 @@ use contract.Lifetimes.{Lfts}
 use denote.Ref.{RefT}
 use Rattle.octets.specs.Bytes.{zeros}
 use Rattle.octets.specs.Outcome as Blocks
+use Rattle.text.specs.Place.{brokenAt}
+use Rattle.text.proofs.Laws.{text-laws}
 use Rattle.mcrypton.specs.Calls.{encrypting, decrypting}
 use Rattle.mcrypton.specs.Vectors.{key4}
 use Rattle.chip_bench.specs.Calls.{benching}
@@ -42,6 +44,7 @@ use Rattle.captions_c.proofs.captions_read.Reads as captions-read
 use Rattle.captions_c.proofs.captions_dated_read.Reads as captions-dated-read
 use Rattle.captions_c.proofs.captions_day_of_date.Reads as captions-day-of-date
 use Rattle.captions_c.proofs.captions_date_of_day.Reads as captions-date-of-day
+use Rattle.captions_c.proofs.captions_broken_at.Reads as captions-broken-at
 use Rattle.captions_c.proofs.captions_list.Reads as captions-list
 
 -- ---- the contracts, as relations between what is lent, the answer, and what was lent as it is after the call
@@ -95,6 +98,9 @@ Writes sealing checking sheet slot caption r after =
 abbrev pub Clears : List ℕ → ℕ → Answer → List ℕ → Type 0
 Clears sheet slot r after = captions-clear.Learnt ([], tt) (lent sheet, (slot, tt)) r (lent after, (slot, tt))
 
+abbrev pub FindsBreak : List ℕ → ℕ → Type 0
+FindsBreak text r = captions-broken-at.Learnt ([], tt) (lent text, tt) r (lent text, tt)
+
 abbrev pub Reads : List ℕ → List ℕ → List ℕ → ℕ → List ℕ → Pointed → List ℕ → Type 0
 Reads sealing checking sheet slot window r after =
     captions-read.Learnt four (lent sealing, (lent checking, (lent sheet, (slot, (lent window, tt))))) r
@@ -135,6 +141,7 @@ pub record Equations : Type 0 where
   pub day-of-date : (y m d : ℕ) (r : Day) → NumbersDay y m d r → dayCrossed r ≡ dayOfDate y m d
   pub date-of-day : (n : ℕ) (r : Date) → DatesDay n r → dateCrossed r ≡ dateOfDay n
   pub list : (s out : List ℕ) (r : ℕ) (after : List ℕ) → Lists s out r after → (r, after) ≡ listed s out
+  pub broken-at : (text : List ℕ) (r : ℕ) → FindsBreak text r → r ≡ brokenAt text
 
 abbrev pub answer : ℕ → ℕ → Answer
 answer number length = record { number = number; length = length }
@@ -163,9 +170,10 @@ pub record Names : Type 0 where
   -- one slot, t = 4, serial 258; twin keys
   pub blanks : (r : Answer) (after : List ℕ) → Blanks (replicate 224 7) 1 4 258 sealingKey checkingKey r after → (r ≡ answer 0 0) × (after ≡ newSheet)
   pub blanks-not : (s : List ℕ) (r : Answer) (after : List ℕ) → Blanks s 1 4 258 sealingKey sealingKey r after → (r ≡ answer 2 0) × (after ≡ s)
-  -- "abc" into slot 0, and a caption of 193 bytes
+  -- "abc" into slot 0, a caption of 193 bytes, and a letter that is cut off
   pub writes : (r : Pointed) (after : List ℕ) → Writes sealingKey checkingKey blankOne 0 abc r after → (r ≡ pointed 0 0 0 0 0) × (after ≡ writtenOne)
   pub writes-not : (r : Pointed) (after : List ℕ) → Writes sealingKey checkingKey blankOne 0 (zeros 193) r after → (r ≡ pointed 7 0 0 0 0) × (after ≡ blankOne)
+  pub writes-broken : (r : Pointed) (after : List ℕ) → Writes sealingKey checkingKey blankOne 0 (0xC3 ∷ []) r after → (r ≡ pointed 15 0 0 0 0) × (after ≡ blankOne)
   -- slot 0, which leaves its 208 bytes zero, and slot 1, which there isn't
   pub clears : (r : Answer) (after : List ℕ) → Clears writtenOne 0 r after → (r ≡ answer 0 0) × (after ≡ 0 ∷ 1 ∷ 4 ∷ 1 ∷ 0 ∷ 0 ∷ 0 ∷ 1 ∷ zeros 208)
   pub clears-not : (r : Answer) (after : List ℕ) → Clears writtenOne 1 r after → (r ≡ answer 6 0) × (after ≡ writtenOne)
@@ -184,6 +192,10 @@ pub record Names : Type 0 where
   -- the sheet with "abc" in it, and an output that is too small
   pub lists : (r : ℕ) (after : List ℕ) → Lists writtenOne (zeros 40) r after → (r ≡ 36) × (after ≡ ascii "slots 1 key 64 last 1\n0 written 1 3\n" ++ zeros 4)
   pub lists-not : (r : ℕ) (after : List ℕ) → Lists writtenOne (zeros 35) r after → (r ≡ 0) × (after ≡ zeros 35)
+  -- a letter that is cut off at the end, one that is overlong by its second byte, and a text that is whole
+  pub finds-cut : (r : ℕ) → FindsBreak (0x41 ∷ 0xC3 ∷ []) r → r ≡ 2
+  pub finds-overlong : (r : ℕ) → FindsBreak (0xE0 ∷ 0x9F ∷ 0xBF ∷ []) r → r ≡ 1
+  pub finds-none : (r : ℕ) → FindsBreak (0x41 ∷ 0xE2 ∷ 0x89 ∷ 0xA2 ∷ 0xCE ∷ 0x91 ∷ 0x2E ∷ []) r → r ≡ 7
 
 -- ---- its proof: the contract's equation, and what its right side comes to
 
@@ -220,6 +232,7 @@ equations =
       day-of-date = λ y m d r h. h;
       date-of-day = λ n r h. h;
       list = λ s out r after h. h;
+      broken-at = λ text r h. h;
     }
 
 pub names : Names
@@ -239,6 +252,7 @@ names =
       blanks-not = λ s r after h. crossed-is r after _ (h ∙ ap plain (exhibits .not-blanked s));
       writes = λ r after h. pointed-is r after _ (h ∙ exhibits .written);
       writes-not = λ r after h. pointed-is r after _ (h ∙ exhibits .not-written);
+      writes-broken = λ r after h. pointed-is r after _ (h ∙ exhibits .broken);
       clears = λ r after h. crossed-is r after _ (h ∙ ap plain (exhibits .cleared));
       clears-not = λ r after h. crossed-is r after _ (h ∙ ap plain (exhibits .not-cleared));
       reads = λ r after h. pointed-is r after _ (h ∙ exhibits .read);
@@ -252,4 +266,7 @@ names =
       dates-day-not = λ r h. date-is r _ (h ∙ exhibits .no-date);
       lists = λ r after h. listed-is r after _ (h ∙ exhibits .list);
       lists-not = λ r after h. listed-is r after _ (h ∙ exhibits .no-list);
+      finds-cut = λ r h. h ∙ text-laws .texts .cut-off-2 .place;
+      finds-overlong = λ r h. h ∙ text-laws .texts .overlong-3 .place;
+      finds-none = λ r h. h ∙ text-laws .texts .example-1 .unbroken;
     }

@@ -3,6 +3,7 @@ use points::Pointed;
 ghost use mathlib.Core.Path.{_≡_};
 ghost use mathlib.Core.List.{List};
 ghost use Prim.Native.Nat.{ℕ};
+ghost use Rattle.text.specs.Place.{brokenAt};
 ghost use Rattle.mcrypton.specs.Calls.{blockOutcome, encrypting, decrypting};
 ghost use Rattle.chip_bench.specs.Calls.{benchOutcome, benching};
 ghost use Rattle.modes.specs.Answers.{macOutcome, authenticating};
@@ -261,6 +262,14 @@ pub extern "C" fn captions_dated_read(
 {
     let a = dated::dated_read(sealing, checking, sheet, terms, slot, day, window);
     points::dated_pointed(a)
+}
+
+// The place of the first byte at which no well-formed text can go on, or the length.
+#[no_mangle]
+pub extern "C" fn captions_broken_at(text: &[u8]) -> usize
+    ensures { λ r. ⌜ r ≡ brokenAt (now (text .entry)) ⌝ }
+{
+    text::broken_at(text)
 }
 
 // The bytes of the listing written; 0, and out as it was, where out is too small.

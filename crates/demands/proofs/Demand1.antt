@@ -5,6 +5,7 @@ use mathlib.Core.List.{List, [], _∷_}
 use mathlib.Core.Logic.{inl, inr}
 use native.Mathlib.Omega.{arith}
 use Rattle.octets.specs.Clauses.{Clause, _when_, Answers, Exactly}
+use Rattle.text.proofs.Laws.{text-laws}
 use Rattle.mcrypton.specs.Refusals.{blockClauses}
 use Rattle.mcrypton.proofs.Refusals.{block-refusals}
 use Rattle.modes.specs.Refusals.{macClauses}
@@ -74,13 +75,14 @@ demand1 =
       bench-block = λ k r wanted out. decides ((λ e. omega (arith, e)), ((λ e. omega (arith, e)), ((λ e. omega (arith, e)), tt))) (bench .exactly k r wanted out) (bench .refused k r wanted out);
       panel = λ k first x out. decides ((λ e. omega (arith, e)), ((λ e. omega (arith, e)), ((λ e. omega (arith, e)), tt))) (panels .exactly k first x out) (panels .refused k first x out);
       blank-sheet = λ k s n t v. decides ((λ e. omega (arith, e)), ((λ e. omega (arith, e)), ((λ e. omega (arith, e)), ((λ e. omega (arith, e)), tt)))) (sheet-refusals .blank k s n t v) (sheet-refusals .refused-blank k s n t v);
-      write = λ k s i c. decides ((λ e. omega (arith, e)), ((λ e. omega (arith, e)), ((λ e. omega (arith, e)), ((λ e. omega (arith, e)), ((λ e. omega (arith, e)), ((λ e. omega (arith, e)), ((λ e. omega (arith, e)), ((λ e. omega (arith, e)), tt)))))))) (sheet-refusals .write k s i c) (sheet-refusals .refused-write k s i c);
+      write = λ k s i c. decides ((λ e. omega (arith, e)), ((λ e. omega (arith, e)), ((λ e. omega (arith, e)), ((λ e. omega (arith, e)), ((λ e. omega (arith, e)), ((λ e. omega (arith, e)), ((λ e. omega (arith, e)), ((λ e. omega (arith, e)), ((λ e. omega (arith, e)), tt))))))))) (sheet-refusals .write k s i c) (sheet-refusals .refused-write k s i c);
       clear = λ s i. decides ((λ e. omega (arith, e)), ((λ e. omega (arith, e)), tt)) (sheet-refusals .clear s i) (sheet-refusals .refused-clear s i);
       read = λ k s i window. decides ((λ e. omega (arith, e)), ((λ e. omega (arith, e)), ((λ e. omega (arith, e)), ((λ e. omega (arith, e)), ((λ e. omega (arith, e)), ((λ e. omega (arith, e)), ((λ e. omega (arith, e)), ((λ e. omega (arith, e)), ((λ e. omega (arith, e)), tt))))))))) (sheet-refusals .read k s i window) (sheet-refusals .refused-read k s i window);
       dated-read = λ k s t i day window. decides ((λ e. omega (arith, e)), ((λ e. omega (arith, e)), ((λ e. omega (arith, e)), ((λ e. omega (arith, e)), ((λ e. omega (arith, e)), ((λ e. omega (arith, e)), ((λ e. omega (arith, e)), ((λ e. omega (arith, e)), ((λ e. omega (arith, e)), ((λ e. omega (arith, e)), ((λ e. omega (arith, e)), ((λ e. omega (arith, e)), tt)))))))))))) (dated-reads .read k s t i day window) (dated-reads .refused k s t i day window);
       day-of-date = λ y m d. decides ((λ e. omega (arith, e)), tt) (calendar-laws .date-exactly y m d) (no-day y m d);
       date-of-day = λ n. decides ((λ e. omega (arith, e)), tt) (calendar-laws .day-exactly n) (no-date n);
       places = places;
+      texts = text-laws;
       block-calls = block-refusals .calls;
       mac-calls = mac-refusals .calls;
       bench-calls = bench .calls;

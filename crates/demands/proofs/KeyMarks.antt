@@ -116,8 +116,9 @@ unfolding Answers writeClauses
 old-write p k s i c n h =
     let a₁ = (sheet-refusals .write k s i c) .answers 14 .0 (ap (λ (o : Outcome). o .number) (sym (code-writes p k s i c)) ∙ h) in
     let a₅ = past 5 (λ e. omega (arith, e)) (past 4 (λ e. omega (arith, e)) (past 2 (λ e. omega (arith, e)) (past 1 (λ e. omega (arith, e)) a₁))) in
-    let a₈ = past 8 (λ e. omega (arith, e)) (past 7 (λ e. omega (arith, e)) (past 6 (λ e. omega (arith, e)) (past-mark n a₅))) in
-    omega (arith, a₈)
+    let a₁₅ = past 7 (λ e. omega (arith, e)) (past 6 (λ e. omega (arith, e)) (past-mark n a₅)) in
+    let a₀ = past 8 (λ e. omega (arith, e)) (past 15 (λ e. omega (arith, e)) a₁₅) in
+    omega (arith, a₀)
 
 old-read : (p q : ℕ) (k : Keys) (s : List ℕ) (i : ℕ) (window : List ℕ) → editionByte s ≢ 3 → (readingBy p q k s i window) .number ≢ 14
 unfolding Answers readClauses

@@ -11,4 +11,5 @@ pub mod Demand3
 pub mod NoStrangers
 pub mod Demand1
 pub mod Serials
+pub mod ShownText
 pub mod KeyMarks

@@ -12,6 +12,7 @@ use Rattle.octets.proofs.Zeros.{zeros-bytes}
 use Rattle.rounds.specs.Word.{rotate1, rotate}
 use Rattle.rounds.specs.Array.{sboxes, sbox, γ, π, τ}
 use Rattle.schedule.specs.Schedule.{byCount, forwardWords, forward4, forward6, forward8, forward, start, eightWords, times, register, constants, registerT, lastWord, roundKey, encryptionKey}
+use Rattle.text.specs.Grammar.{forms, inside, after, some, meets, wellFormed}
 use Rattle.mcrypton.specs.Cipher.{byWords, afterBy, steps, encryptBlock}
 use Rattle.mcrypton.specs.Bytes.{wordsOf, bytesOf, encryptBytes}
 use Rattle.modes.specs.Xor.{xorBytes}
@@ -90,15 +91,15 @@ two-slots = refl
 
 answers : replies (turnModel (λ k′. keyRefusal k′ strangersSheet)) sevenTurns (newModel (slots strangersSheet))
     ≡ says 0 ∷ says 1 ∷ says 2 ∷ says 5 ∷ says 14 ∷ says 0 ∷ says 0 ∷ []
-unfolding replies turnModel modelStep newModel answered
+unfolding forms inside after some meets wellFormed replies turnModel modelStep newModel answered
 answers = rw (two-slots, number-1, number-2, number-5, number-14)
 
 own-page : page (finally modelStep (ownCalls sevenTurns) (newModel (slots strangersSheet))) 0 ≡ holds (1 ∷ [])
-unfolding finally ownCalls modelStep newModel page
+unfolding forms inside after some meets wellFormed finally ownCalls modelStep newModel page
 own-page = rw two-slots
 
 own-count : (finally modelStep (ownCalls sevenTurns) (newModel (slots strangersSheet))) .count ≡ 2
-unfolding finally ownCalls modelStep newModel
+unfolding forms inside after some meets wellFormed finally ownCalls modelStep newModel
 own-count = rw two-slots
 
 blanked-number : (blanking firstPair (zeros 432) 2 4 0x5a04) .number ≡ 0
@@ -127,8 +128,8 @@ strangers-met =
 -- ---- the model
 
 model-run : ModelRun
-unfolding zeros replies finally newModel page answered modelStep
-model-run = record { answers = refl; first = refl; second = refl; count = refl; worn = refl }
+unfolding forms inside after some meets wellFormed zeros replies finally newModel page answered modelStep
+model-run = record { answers = refl; first = refl; second = refl; count = refl; worn = refl; broken = refl; broken-answers = refl }
 
 -- ---- two writes to a sheet that nears its last
 

@@ -7,6 +7,8 @@ use mathlib.Core.Logic.{_↔_}
 use lib.ListN.{length}
 use Rattle.octets.specs.Bytes.{zeros}
 use Rattle.octets.specs.Clauses.{Clause, _when_, Answers, OneOf}
+use Rattle.text.specs.Grammar.{UTF8}
+use Rattle.text.specs.Laws.{TextLaws}
 use Rattle.mcrypton.specs.Calls.{encrypting, decrypting}
 use Rattle.mcrypton.specs.Refusals as Blocks
 use Rattle.modes.specs.Answers.{authenticating}
@@ -112,10 +114,10 @@ pub record Demand1 : Type 0 where
       ∷ (5 when (length (k .sealing) ≡ 2 * t → ⊥))
       ∷ [])
       (Leaves (blanking k s n t v) s)
-  -- writing the caption c to slot i: 1 2 4 5 14 6 7 8
+  -- writing the caption c to slot i: 1 2 4 5 14 6 7 15 8
   pub write : (k : Keys) (s : List ℕ) (i : ℕ) (c : List ℕ)
       → Decides ((writing k s i c) .number)
-      (wrongKeys k ∷ twinKeys k ∷ unfitSheet s ∷ otherClass k s ∷ otherKeys k s ∷ noSlot s i ∷ (7 when (192 < length c)) ∷ (8 when (lastWrite s ≡ 4294967295)) ∷ [])
+      (wrongKeys k ∷ twinKeys k ∷ unfitSheet s ∷ otherClass k s ∷ otherKeys k s ∷ noSlot s i ∷ (7 when (192 < length c)) ∷ (15 when (UTF8 c → ⊥)) ∷ (8 when (lastWrite s ≡ 4294967295)) ∷ [])
       (Leaves (writing k s i c) s)
   -- clearing slot i: 4 6
   pub clear : (s : List ℕ) (i : ℕ) → Decides ((clearing s i) .number) (unfitSheet s ∷ noSlot s i ∷ []) (Leaves (clearing s i) s)
@@ -136,6 +138,8 @@ pub record Demand1 : Type 0 where
       → Decides ((dateOfDay n) .number) ((11 when (36524 < n)) ∷ []) (((dateOfDay n) .year ≡ 0) × ((dateOfDay n) .month ≡ 0) × ((dateOfDay n) .day ≡ 0))
   -- where the numbers that the clauses look at stand in a sheet
   pub places : Places
+  -- what well-formed text is: the encoding of code points, and of no others
+  pub texts : TextLaws
   -- calls of each kind, accepted and refused, in plain values
   pub block-calls : Blocks.BlockCalls
   pub mac-calls : MacCalls

@@ -7,4 +7,5 @@ pub mod Witnesses
 pub mod Demand3
 pub mod NoStrangers
 pub mod Serials
+pub mod ShownText
 pub mod KeyMarks

@@ -8,7 +8,7 @@ use Rattle.layout.specs.Layout.{slots, blankSheet}
 use Rattle.captions.specs.Captions.{Keys, pair, keyMark}
 use Rattle.captions.specs.Calls.{blanking}
 use Rattle.captions.specs.Runs.{Reply, replies, finally}
-use Rattle.captions.specs.Model.{Call, writes, clears, blank, holds, newModel, page, modelStep}
+use Rattle.captions.specs.Model.{Call, writes, clears, blank, holds, Model, newModel, page, modelStep}
 use Rattle.captions.specs.Turns.{Turn, own, stranger, ownCalls, EachStranger, turnModel}
 use Rattle.captions.specs.Claim.{Captions}
 use Rattle.exhibits.specs.Values.{keys, abc, nearlyWorn, wornOne}
@@ -26,12 +26,21 @@ abbrev pub sevenCalls : List Call
 sevenCalls =
     writes 0 (1 ∷ []) ∷ writes 1 (2 ∷ []) ∷ writes 0 (3 ∷ []) ∷ clears 1 ∷ writes 2 [] ∷ clears 2 ∷ writes 0 (zeros 193) ∷ []
 
+abbrev pub wornModel : Model
+wornModel = record { pages = blank ∷ []; count = 4294967295 }
+
+abbrev pub brokenCalls : List Call
+brokenCalls = writes 0 (0xC3 ∷ []) ∷ writes 0 (replicate 193 0xC3) ∷ writes 1 (0xC3 ∷ []) ∷ writes 0 (0xC3 ∷ 0xA9 ∷ []) ∷ []
+
 pub record ModelRun : Type 0 where
   pub answers : replies modelStep sevenCalls (newModel 2) ≡ says 0 ∷ says 0 ∷ says 0 ∷ says 0 ∷ says 6 ∷ says 6 ∷ says 7 ∷ []
   pub first : page (finally modelStep sevenCalls (newModel 2)) 0 ≡ holds (3 ∷ [])
   pub second : page (finally modelStep sevenCalls (newModel 2)) 1 ≡ blank
   pub count : (finally modelStep sevenCalls (newModel 2)) .count ≡ 3
   pub worn : replies modelStep (writes 0 [] ∷ writes 0 [] ∷ []) (record { pages = blank ∷ []; count = 4294967294 }) ≡ says 0 ∷ says 8 ∷ []
+  -- on a page that is worn: a letter that is cut off, among 193 bytes, in a slot that there isn't, and a letter that is whole
+  pub broken : finally modelStep brokenCalls wornModel ≡ wornModel
+  pub broken-answers : replies modelStep brokenCalls wornModel ≡ says 15 ∷ says 7 ∷ says 6 ∷ says 8 ∷ []
 
 -- ---- the same two calls on a sheet after 4294967294 writes: the second finds what the first left
 

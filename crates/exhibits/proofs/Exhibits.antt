@@ -7,6 +7,7 @@ use native.Mathlib.Omega.{arith}
 use lib.ListN.{drop, replicate}
 use Rattle.octets.specs.Bytes.{if_then_else_, be, number, zeros, put, allZero, same, allBelow}
 use Rattle.octets.specs.Outcome.{_gives_, decided}
+use Rattle.text.specs.Grammar.{forms, inside, after, some, meets, wellFormed}
 use Rattle.mcrypton.specs.Bytes.{keyLength}
 use Rattle.mcrypton.specs.Calls.{blockOutcome, blockTests, blockCall, encrypting, decrypting}
 use Rattle.mcrypton.proofs.Refusals.{block-refusals}
@@ -88,15 +89,15 @@ module _ (s : List ℕ) (w : ℕ) (f c : List ℕ)
   written-as = by ∙ ap (λ (g : List ℕ). outcome (Accepted 0) (made s w g (checkOf loadedKeys w 0 3 g))) sealed ∙ ap (λ (d : List ℕ). outcome (Accepted 0) (made s w f d)) checked
 
 written-whole : writing keys blankOne 0 abc ≡ plain 0 0 writtenOne
-unfolding made writing writingWith writeTests captionTests decided wrongKeys otherClass otherKeys sheetKeyLength keyBytes same keyTests classTests sheetTests number zeros be allZero allBelow slots keyClass editionByte lastWrite rule1 mcryptonClass editionOf sheetSize markAt fieldAt slotCount mark field markNumber markLength writtenMark blankSlot fitSlot fitIn written storedAs slotMark newMark put storeLast storeSlot outcome answerNumber answerLength answerPoint
+unfolding forms inside after some meets wellFormed made writing writingWith writeTests captionTests decided wrongKeys otherClass otherKeys sheetKeyLength keyBytes same keyTests classTests sheetTests number zeros be allZero allBelow slots keyClass editionByte lastWrite rule1 mcryptonClass editionOf sheetSize markAt fieldAt slotCount mark field markNumber markLength writtenMark blankSlot fitSlot fitIn written storedAs slotMark newMark put storeLast storeSlot outcome answerNumber answerLength answerPoint
 written-whole = written-as blankOne 1 abcField abcMark refl field-sealed field-checked
 
 last-written : writing keys nearlyWorn 0 abc ≡ plain 0 0 wornOne
-unfolding made writing writingWith writeTests captionTests decided wrongKeys otherClass otherKeys sheetKeyLength keyBytes same keyTests classTests sheetTests number zeros be allZero allBelow slots keyClass editionByte lastWrite rule1 mcryptonClass editionOf sheetSize markAt fieldAt slotCount mark field markNumber markLength writtenMark blankSlot fitSlot fitIn written storedAs slotMark newMark put storeLast storeSlot outcome answerNumber answerLength answerPoint
+unfolding forms inside after some meets wellFormed made writing writingWith writeTests captionTests decided wrongKeys otherClass otherKeys sheetKeyLength keyBytes same keyTests classTests sheetTests number zeros be allZero allBelow slots keyClass editionByte lastWrite rule1 mcryptonClass editionOf sheetSize markAt fieldAt slotCount mark field markNumber markLength writtenMark blankSlot fitSlot fitIn written storedAs slotMark newMark put storeLast storeSlot outcome answerNumber answerLength answerPoint
 last-written = written-as nearlyWorn 4294967295 lastField lastMark refl last-sealed last-checked
 
 worn-whole : writing keys wornOne 0 abc ≡ plain 8 0 wornOne
-unfolding writing writingWith writeTests captionTests decided wrongKeys otherClass otherKeys sheetKeyLength keyBytes same keyTests classTests sheetTests number zeros be allZero allBelow slots keyClass editionByte lastWrite rule1 mcryptonClass editionOf sheetSize markAt fieldAt slotCount mark field markNumber markLength writtenMark blankSlot fitSlot fitIn outcome answerNumber answerLength answerPoint
+unfolding forms inside after some meets wellFormed writing writingWith writeTests captionTests decided wrongKeys otherClass otherKeys sheetKeyLength keyBytes same keyTests classTests sheetTests number zeros be allZero allBelow slots keyClass editionByte lastWrite rule1 mcryptonClass editionOf sheetSize markAt fieldAt slotCount mark field markNumber markLength writtenMark blankSlot fitSlot fitIn outcome answerNumber answerLength answerPoint
 worn-whole = refl
 
 short-sheet : writing keys (1 ∷ 2 ∷ 3 ∷ []) 0 abc ≡ record { number = 4; len = 0; points = record { rule = 1; slot = 0; place = 0 }; bytes = 1 ∷ 2 ∷ 3 ∷ [] }
@@ -106,6 +107,22 @@ short-sheet = refl
 not-written : writing keys blankOne 0 (zeros 193) ≡ plain 7 0 blankOne
 unfolding writing writingWith writeTests captionTests decided wrongKeys otherClass otherKeys sheetKeyLength keyBytes same keyTests classTests sheetTests number zeros be allZero allBelow slots keyClass editionByte lastWrite rule1 mcryptonClass editionOf sheetSize markAt fieldAt slotCount mark field markNumber markLength writtenMark blankSlot fitSlot fitIn outcome answerNumber answerLength answerPoint
 not-written = refl
+
+broken-letter : writing keys blankOne 0 (0xC3 ∷ []) ≡ plain 15 0 blankOne
+unfolding forms inside after some meets wellFormed writing writingWith writeTests captionTests decided wrongKeys otherClass otherKeys sheetKeyLength keyBytes same keyTests classTests sheetTests number zeros be allZero allBelow slots keyClass editionByte lastWrite rule1 mcryptonClass editionOf sheetSize markAt fieldAt slotCount mark field markNumber markLength writtenMark blankSlot fitSlot fitIn outcome answerNumber answerLength answerPoint
+broken-letter = refl
+
+broken-nowhere : writing keys blankOne 1 (0xC3 ∷ []) ≡ plain 6 0 blankOne
+unfolding writing writingWith writeTests captionTests decided wrongKeys otherClass otherKeys sheetKeyLength keyBytes same keyTests classTests sheetTests number zeros be allZero allBelow slots keyClass editionByte lastWrite rule1 mcryptonClass editionOf sheetSize markAt fieldAt slotCount mark field markNumber markLength writtenMark blankSlot fitSlot fitIn outcome answerNumber answerLength answerPoint
+broken-nowhere = refl
+
+broken-long : writing keys blankOne 0 (replicate 193 0xC3) ≡ plain 7 0 blankOne
+unfolding writing writingWith writeTests captionTests decided wrongKeys otherClass otherKeys sheetKeyLength keyBytes same keyTests classTests sheetTests number zeros be allZero allBelow slots keyClass editionByte lastWrite rule1 mcryptonClass editionOf sheetSize markAt fieldAt slotCount mark field markNumber markLength writtenMark blankSlot fitSlot fitIn outcome answerNumber answerLength answerPoint
+broken-long = refl
+
+broken-worn : writing keys wornOne 0 (0xC3 ∷ []) ≡ plain 15 0 wornOne
+unfolding forms inside after some meets wellFormed writing writingWith writeTests captionTests decided wrongKeys otherClass otherKeys sheetKeyLength keyBytes same keyTests classTests sheetTests number zeros be allZero allBelow slots keyClass editionByte lastWrite rule1 mcryptonClass editionOf sheetSize markAt fieldAt slotCount mark field markNumber markLength writtenMark blankSlot fitSlot fitIn outcome answerNumber answerLength answerPoint
+broken-worn = refl
 
 cleared-whole : clearing writtenOne 0 ≡ plain 0 0 clearedOne
 unfolding clearing clearingWith clearTests cleared storeSlot put decided number zeros be allZero allBelow slots keyClass editionByte lastWrite rule1 mcryptonClass editionOf sheetSize markAt fieldAt slotCount mark field markNumber markLength writtenMark blankSlot fitSlot fitIn outcome answerNumber answerLength answerPoint
@@ -202,6 +219,10 @@ exhibits =
       not-blanked = not-blanked;
       written = written-whole;
       not-written = not-written;
+      broken = broken-letter;
+      broken-nowhere = broken-nowhere;
+      broken-long = broken-long;
+      broken-worn = broken-worn;
       last-written = last-written;
       worn = worn-whole;
       short = short-sheet;

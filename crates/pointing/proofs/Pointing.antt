@@ -25,7 +25,7 @@ use Rattle.captions.specs.Captions.{Keys, Ciphers, loadedFor, startBlock, check
 use Rattle.captions.specs.Calls.{keyTests, otherClass, captionTests, classTests, sheetTests, windowTests, openTests, writeTests, clearTests, readTests, blankTests, writingWith, clearingWith, readingWith, blankingWith, writing, clearing, reading, blanking}
 use Rattle.captions.specs.Claim.{Sound}
 use Rattle.captions.specs.declared.Answer.{Answer}
-use Rattle.captions.specs.declared.Answer.the-variants.{Accepted, WrongKey, TwinKeys, WrongSpan, UnfitSheet, OtherKeyClass, NoSuchSlot, Overlong, Worn, Blank, Altered, OtherKeys}
+use Rattle.captions.specs.declared.Answer.the-variants.{Accepted, WrongKey, TwinKeys, WrongSpan, UnfitSheet, OtherKeyClass, NoSuchSlot, Overlong, Worn, Blank, Altered, OtherKeys, BrokenText}
 use Rattle.captions.specs.declared.Change.{Change}
 use Rattle.captions.specs.declared.Change.the-variants.{Check, Byte}
 use Rattle.captions.proofs.Slot.{chaining, start-block}
@@ -122,6 +122,7 @@ write-points k s i c =
     walk (Points s Never) _ _ _ _ _ (λ t. plain s Never OtherKeys s refl refl refl) λ t₁₄.
     walk (Points s Never) _ _ _ _ _ (λ t. plain s Never NoSuchSlot s refl refl refl) λ t₆.
     walk (Points s Never) _ _ _ _ _ (λ t. plain s Never Overlong s refl refl refl) λ t₇.
+    walk (Points s Never) _ _ _ _ _ (λ t. plain s Never BrokenText s refl refl refl) λ t₁₅.
     walk (Points s Never) _ _ _ _ _ (λ t. plain s Never Worn s refl refl refl) λ t₈.
     ended (Points s Never) _ _ (plain s Never (Accepted 0) _ refl refl refl)
 

@@ -95,6 +95,7 @@ pub fn answer_pointed(a: Answer) -> Pointed
         Answer::Blank => at(9, 0, 0, 0),
         Answer::Altered(slot, c) => change_pointed(slot, c),
         Answer::OtherKeys => at(14, 0, 0, 0),
+        Answer::BrokenText => at(15, 0, 0, 0),
     }
 }
 

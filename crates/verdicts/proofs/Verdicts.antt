@@ -20,9 +20,10 @@ use Rattle.layout.proofs.Fits.{fit-facts, fits-header, fits-class-small, slot-l
 use Rattle.faults.specs.Faults.{firstFault}
 use Rattle.captions.specs.Answers.{firstOf}
 use Rattle.captions.specs.Captions.{Keys, pair, loadedFor, otherKeys}
+use Rattle.text.specs.Grammar.{wellFormed}
 use Rattle.captions.specs.Calls.{wrongKeys, otherClass, spanRow, unfitRow, classRow, markRow, slotRow, blankRow, keyTests, captionTests, classTests, sheetTests, windowTests, openTests, writeTests, clearTests, blankTests}
 use Rattle.captions.specs.declared.Answer.{Answer}
-use Rattle.captions.specs.declared.Answer.the-variants.{WrongKey, TwinKeys, WrongSpan, UnfitSheet, OtherKeyClass, NoSuchSlot, Overlong, Worn, Blank, OtherKeys}
+use Rattle.captions.specs.declared.Answer.the-variants.{WrongKey, TwinKeys, WrongSpan, UnfitSheet, OtherKeyClass, NoSuchSlot, Overlong, Worn, Blank, OtherKeys, BrokenText}
 use Rattle.captions.specs.declared.Verdict.{Verdict}
 use Rattle.captions.specs.declared.Verdict.the-variants.{Pass, Refuse}
 use Rattle.captions.proofs.Tables.{Unmet, unmet-first, unmet-rest, unmet-right, answers-all, decided-accepted, decided-map}
@@ -205,21 +206,26 @@ module _ (s : List ℕ) (i : ℕ) (v : Verdict) (e : v ≡ firstOf (unfitRow (ed
         unfolding sheetTests classTests after-fit after-class
         sheet-slot h u d = append-passed _ after-fit v e u p (append-passed _ after-class w f u q (append-passed _ (slotRow s i ∷ []) m g u h d))
 
--- ---- tests 7 and 8
+-- ---- tests 7, 15 and 8
 
 module _ (s c : List ℕ) where
   pub caption-long : 192 < length c → Refuse Overlong ≡ firstOf (captionTests s c)
   unfolding captionTests
   caption-long l = met _ _ _ (lt-ltb 192 (length c) l)
 
-  module _ (l : length c ≤ 192) (w : ℕ) (e : w ≡ lastWrite s) where
-    pub caption-worn : w ≡ 4294967295 → Refuse Worn ≡ firstOf (captionTests s c)
+  module _ (l : length c ≤ 192) (r : Bool) (t : r ≡ wellFormed c) where
+    pub caption-broken : r ≡ false → Refuse BrokenText ≡ firstOf (captionTests s c)
     unfolding captionTests
-    caption-worn q = unmet _ _ _ _ (le-ltb 192 (length c) l) (met _ _ _ (rw (← e, eq-eqb w 4294967295 q)))
+    caption-broken h = unmet _ _ _ _ (le-ltb 192 (length c) l) (met _ _ _ (rw (← t, h)))
 
-    pub caption-pass : (w ≡ 4294967295 → ⊥) → Pass ≡ firstOf (captionTests s c)
-    unfolding captionTests
-    caption-pass q = unmet _ _ _ _ (le-ltb 192 (length c) l) (unmet _ _ _ _ (rw (← e, ne-eqb w 4294967295 q)) none)
+    module _ (h : r ≡ true) (w : ℕ) (e : w ≡ lastWrite s) where
+      pub caption-worn : w ≡ 4294967295 → Refuse Worn ≡ firstOf (captionTests s c)
+      unfolding captionTests
+      caption-worn q = unmet _ _ _ _ (le-ltb 192 (length c) l) (unmet _ _ _ _ (rw (← t, h)) (met _ _ _ (rw (← e, eq-eqb w 4294967295 q))))
+
+      pub caption-pass : (w ≡ 4294967295 → ⊥) → Pass ≡ firstOf (captionTests s c)
+      unfolding captionTests
+      caption-pass q = unmet _ _ _ _ (le-ltb 192 (length c) l) (unmet _ _ _ _ (rw (← t, h)) (unmet _ _ _ _ (rw (← e, ne-eqb w 4294967295 q)) none))
 
 -- ---- blanking: tests 1, 2, 3 and 5
 

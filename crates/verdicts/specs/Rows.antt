@@ -20,7 +20,7 @@ sizeRow k t = not (eqb (length k) (keyBytes t)) gives OtherKeyClass
 abbrev pub sheetRows : Keys → List ℕ → ℕ → List (Row Answer)
 sheetRows k s i = sheetTests (editionOf s) (loadedFor (keyClass s) k) k s i
 
--- 1 2 4 5 14 6 7 8
+-- 1 2 4 5 14 6 7 15 8
 abbrev pub writeRows : Keys → List ℕ → ℕ → List ℕ → List (Row Answer)
 writeRows k s i c = writeTests (editionOf s) (loadedFor (keyClass s) k) k s i c
 

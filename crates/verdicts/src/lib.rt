@@ -125,13 +125,16 @@ pub fn sheet_verdict(sealing: &[u8], checking: &[u8], sheet: &[u8], slot: usize)
     slot_verdict(sheet, slot)
 }
 
-// Tests 7 and 8.
+// Tests 7, 15 and 8.
 pub fn caption_verdict(sheet: &[u8], caption: &[u8]) -> Verdict
     requires { ⌜ 8 ≤ length (now sheet) ⌝ }
     ensures { λ r. ⌜ r ≡ firstOf (captionTests (now (sheet .entry)) (now (caption .entry))) ⌝ }
 {
     if 192 < caption.len() {
         return Verdict::Refuse(Answer::Overlong);
+    }
+    if !text::well_formed(caption) {
+        return Verdict::Refuse(Answer::BrokenText);
     }
     if layout::last_write(sheet) == 4294967295 {
         return Verdict::Refuse(Answer::Worn);
@@ -150,7 +153,7 @@ pub fn written_verdict(sheet: &[u8], slot: usize) -> Verdict
     Verdict::Pass
 }
 
-// Tests 1, 2, 4, 5, 14, 6, 7 and 8.
+// Tests 1, 2, 4, 5, 14, 6, 7, 15 and 8.
 pub fn write_verdict(
     sealing: &[u8],
     checking: &[u8],

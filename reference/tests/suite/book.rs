@@ -1,7 +1,8 @@
 //! Lists of writes and clears against the book, with reads at the end
-//! (document 01, "The book of demand 3"; document 02, requests 3 and 7).
+//! (document 01, "The book of demand 3"; document 02, requests 3, 7 and 9).
 
 use crate::edition::Edition;
+use crate::letters::{any_text, bad_text, good_text};
 use crate::random::Random;
 use crate::strangers::stranger;
 use crate::support::*;
@@ -16,19 +17,21 @@ fn random_slot(random: &mut Random, n: usize) -> usize {
     }
 }
 
-/// A caption: lengths about every edge, and others.
+/// A caption: lengths about every edge, and others; well formed and broken ones.
 fn random_caption(random: &mut Random) -> Vec<u8> {
     let any = random.below(220);
     let length = random.pick(&[0, 1, 7, 8, 9, 191, 192, 193, 1000, any, any, any]);
-    if random.below(4) == 0 {
-        vec![0; length]
-    } else {
-        random.bytes(length)
+    match random.below(8) {
+        0 => vec![0; length],
+        1 => random.bytes(length),
+        2 => any_text(random, 80),
+        3 if length > 0 => bad_text(random, length),
+        _ => good_text(random, length),
     }
 }
 
-/// How many calls of a list were strangers' writes, by the number they gave.
-type Strangers = [usize; 15];
+/// How many writes gave each number.
+type Numbers = [usize; 16];
 
 /// Runs a list of calls on a blank sheet with some w and on a book with that
 /// count. Where `strangers` says so, about one call in three is a stranger's
@@ -38,14 +41,15 @@ fn run(
     (edition, t): (Edition, usize),
     (n, w): (usize, u32),
     calls: usize,
-    mut strangers: Option<&mut Strangers>,
-) {
+    mut strangers: Option<&mut Numbers>,
+) -> Numbers {
     let keys = unlike(random, t);
     let blanked = blank_for(edition, &keys, n, t);
     let mut sheet = blanked.clone();
     set_w(&mut sheet, w);
     let mut book = Book::new(n);
     book.count = w;
+    let mut given = [0; 16];
     for _ in 0..calls {
         let slot = random_slot(random, n);
         if let Some(met) = strangers.as_mut().filter(|_| random.below(3) == 0) {
@@ -59,6 +63,7 @@ fn run(
             let caption = random_caption(random);
             let answer = write(&keys, &mut sheet, slot, &caption);
             assert_eq!(answer, refused(book.write(slot, &caption)));
+            given[usize::from(answer.number)] += 1;
         }
         assert!(reference::fit(&sheet));
     }
@@ -67,8 +72,12 @@ fn run(
     set_w(&mut header, book.count);
     assert_eq!(sheet[..edition.header()], header);
     for slot in 0..n {
-        assert_eq!(Some(read(&keys, &sheet, slot)), book.reading(slot));
+        let (answer, window) = read(&keys, &sheet, slot);
+        assert_eq!(Some((answer, window)), book.reading(slot));
+        let caption = &window[..usize::from(answer.length)];
+        assert!(std::str::from_utf8(caption).is_ok());
     }
+    given
 }
 
 /// A stranger's write: it gives the refusal that the stranger's keys meet with
@@ -100,6 +109,27 @@ fn random_lists_on_small_sheets() {
             run(&mut random, kind, (n, 0), calls, None);
         }
     }
+}
+
+/// The book hears of a broken caption, gives 15 and changes nothing; so does the
+/// sheet. Every number of a write is met many times.
+#[test]
+fn random_lists_with_broken_captions() {
+    let mut random = Random::new(97);
+    let mut given = [0; 16];
+    for kind in kinds() {
+        for w in [0, u32::MAX - 3] {
+            for _ in 0..60 {
+                let n = 1 + random.below(4);
+                let numbers = run(&mut random, kind, (n, w), 30, None);
+                given = std::array::from_fn(|number| given[number] + numbers[number]);
+            }
+        }
+    }
+    report(&format!("writes of random lists by number: {given:?}"));
+    let any: Vec<usize> = (0..16).filter(|number| given[*number] > 0).collect();
+    assert_eq!(any, [0, 6, 7, 8, 15]);
+    assert!(any.iter().all(|number| given[*number] > 1000));
 }
 
 #[test]
@@ -150,7 +180,7 @@ fn random_lists_on_a_sheet_that_wears_out() {
 fn random_lists_with_strangers() {
     let mut random = Random::new(95);
     for edition in Edition::ALL {
-        let mut met = [0; 15];
+        let mut met = [0; 16];
         for t in CLASSES {
             for _ in 0..60 {
                 let n = 1 + random.below(6);
@@ -170,7 +200,7 @@ fn random_lists_with_strangers() {
             Edition::Three(_) => &[1, 2, 5, 14],
             _ => &[1, 2, 5],
         };
-        let any: Vec<usize> = (0..15).filter(|number| met[*number] > 0).collect();
+        let any: Vec<usize> = (0..16).filter(|number| met[*number] > 0).collect();
         assert_eq!(any, numbers);
         assert!(any.iter().all(|number| met[*number] > 100));
     }
@@ -211,10 +241,19 @@ fn the_book_itself() {
     assert_eq!(book.reading(1), Some((refused(9), [0; 192])));
     assert_eq!(book.count, 3);
 
+    let before = book.clone();
+    assert_eq!(book.write(0, b"caf\xc3"), 15);
+    assert_eq!(book.write(1, b"\x80"), 15);
+    assert_eq!(book, before);
+
     book.count = u32::MAX;
     let before = book.clone();
     assert_eq!(book.write(2, &[0; 193]), 6);
+    assert_eq!(book.write(2, &[0xff; 193]), 6);
+    assert_eq!(book.write(2, &[0xff; 192]), 6);
     assert_eq!(book.write(1, &[0; 193]), 7);
+    assert_eq!(book.write(1, &[0xff; 193]), 7);
+    assert_eq!(book.write(1, &[0xff; 192]), 15);
     assert_eq!(book.write(1, &[0; 192]), 8);
     assert_eq!(book.clear(2), 6);
     assert_eq!(book.clear(usize::MAX), 6);

@@ -2,6 +2,7 @@
 //! settles of it (document 02, requests 1, 5 and 7).
 
 use crate::edition::Edition;
+use crate::letters::good_text;
 use crate::random::Random;
 use crate::refusals::{call_for, Call, WAYS};
 use crate::support::*;
@@ -178,7 +179,7 @@ fn some_sheet(random: &mut Random, edition: Edition, t: usize) -> (Vec<u8>, Call
         let what = random.below(4);
         if what > 0 {
             let length = random.below(193);
-            let caption = random.bytes(length);
+            let caption = good_text(random, length);
             assert_eq!(write(&keys, &mut sheet, slot, &caption), accepted(0));
         }
         if what == 1 {

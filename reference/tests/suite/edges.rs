@@ -1,6 +1,7 @@
 //! "Each side of each edge" (document 01; of blanking, in its own file).
 
 use crate::edition::Edition;
+use crate::letters::good_text;
 use crate::random::Random;
 use crate::support::*;
 
@@ -44,7 +45,8 @@ fn caption_192_taken_and_193_refused() {
     for (edition, t) in kinds() {
         let keys = unlike(&mut random, t);
         let mut sheet = blank_for(edition, &keys, 2, t);
-        let caption = random.bytes(193);
+        let mut caption = good_text(&mut random, 192);
+        caption.push(b'x');
         assert_eq!(write(&keys, &mut sheet, 1, &caption[..192]), accepted(0));
         let before = sheet.clone();
         assert_eq!(write(&keys, &mut sheet, 1, &caption), refused(7));

@@ -2,6 +2,7 @@
 
 use crate::broken::*;
 use crate::edition::Edition;
+use crate::letters::good_text;
 use crate::random::Random;
 use crate::support::*;
 use reference::{first_fault, fit, Fault};
@@ -25,7 +26,7 @@ pub fn written_sheet(
     let keys = unlike(random, t);
     let mut sheet = blank_for(edition, &keys, 3, t);
     for (slot, length) in lengths.into_iter().enumerate() {
-        let caption = random.bytes(length);
+        let caption = good_text(random, length);
         assert_eq!(write(&keys, &mut sheet, slot, &caption), accepted(0));
     }
     (keys, sheet)

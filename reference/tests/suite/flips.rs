@@ -3,6 +3,7 @@
 
 use crate::edition::Edition;
 use crate::layout::meets_the_layout;
+use crate::letters::good_text;
 use crate::random::Random;
 use crate::support::*;
 
@@ -38,7 +39,7 @@ fn every_bit_of_a_sheet_flipped() {
     let mut random = Random::new(125);
     for (edition, t) in kinds() {
         let keys = unlike(&mut random, t);
-        let longest = random.bytes(192);
+        let longest = good_text(&mut random, 192);
         let mut sheet = blank_for(edition, &keys, 3, t);
         assert_eq!(write(&keys, &mut sheet, 0, b"short"), accepted(0));
         assert_eq!(write(&keys, &mut sheet, 2, &longest), accepted(0));

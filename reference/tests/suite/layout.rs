@@ -2,6 +2,7 @@
 //! requests 3 and 7).
 
 use crate::edition::Edition;
+use crate::letters::good_text;
 use crate::random::Random;
 use crate::support::*;
 use reference::fit;
@@ -49,7 +50,7 @@ fn mixed_sheet(random: &mut Random, edition: Edition, t: usize) -> Vec<u8> {
     let keys = unlike(random, t);
     let mut sheet = blank_for(edition, &keys, 3, t);
     for (slot, length) in [(0, 192), (1, 5), (2, 0)] {
-        let caption = random.bytes(length);
+        let caption = good_text(random, length);
         assert_eq!(write(&keys, &mut sheet, slot, &caption), accepted(0));
     }
     assert_eq!(reference::clear(&mut sheet, 1), accepted(0));

@@ -1,6 +1,7 @@
 //! The key mark of edition 3 (document 02, request 7).
 
 use crate::edition::Edition;
+use crate::letters::{bad_text, good_text};
 use crate::random::Random;
 use crate::support::*;
 use std::collections::BTreeSet;
@@ -198,10 +199,11 @@ fn the_mark_stays_through_any_calls() {
         let before = sheet[..16].to_vec();
         for _ in 0..100 {
             let slot = random.below(5);
-            let caption = random.bytes(20);
-            match random.below(3) {
+            let (good, bad) = (good_text(&mut random, 20), bad_text(&mut random, 20));
+            match random.below(4) {
                 0 => reference::clear(&mut sheet, slot),
-                _ => write(&keys, &mut sheet, slot, &caption),
+                1 => write(&keys, &mut sheet, slot, &bad),
+                _ => write(&keys, &mut sheet, slot, &good),
             };
             assert_eq!(sheet[..4], before[..4]);
             assert_eq!(sheet[8..16], before[8..]);

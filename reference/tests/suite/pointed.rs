@@ -59,7 +59,7 @@ fn the_answer_is_the_number_and_the_length_alone() {
     assert_eq!((answer.answer().number, answer.answer().length), (1, 3));
 }
 
-/// 4 comes before 5, 14, 6, 7 and 9, so slot, caption and keys don't matter.
+/// 4 comes before 5, 14, 6, 7, 15 and 9, so slot, caption and keys don't matter.
 #[test]
 fn every_call_points_to_the_fault_of_an_unfit_sheet() {
     let mut random = Random::new(160);
@@ -78,6 +78,7 @@ fn every_call_points_to_the_fault_of_an_unfit_sheet() {
                         assert_eq!(pointed_read(keys, &broken, slot), expected);
                         assert_eq!(pointed_write(keys, &broken, slot, b"x"), expected);
                         assert_eq!(pointed_write(keys, &broken, slot, &overlong), expected);
+                        assert_eq!(pointed_write(keys, &broken, slot, b"\xff"), expected);
                         for day in [0, 36525] {
                             let dated = pointed_dated(keys, &broken, &terms, slot, day);
                             assert_eq!(dated, expected);
@@ -272,6 +273,7 @@ fn accepted_calls_and_refusals_other_than_4_and_10_carry_zeros() {
         assert_eq!(pointed_write(&keys, &sheet, 3, b""), silent(6));
         assert_eq!(pointed_dated(&keys, &sheet, &terms, 3, 0), silent(6));
         assert_eq!(pointed_write(&keys, &sheet, 0, &[1; 193]), silent(7));
+        assert_eq!(pointed_write(&keys, &sheet, 0, b"caf\xc3"), silent(15));
         assert_eq!(pointed_read(&keys, &sheet, 1), silent(9));
         assert_eq!(pointed_dated(&keys, &sheet, &terms, 1, 0), silent(9));
         assert_eq!(pointed_dated(&keys, &sheet, &terms, 2, 0), silent(12));

@@ -39,6 +39,7 @@ fn the_program_prints_each_kind_of_vectors() {
         ("marks", marks()),
         ("sheet", sheet()),
         ("faults", faults()),
+        ("texts", texts()),
     ] {
         assert_eq!(printed(&["vectors", kind], b""), text.as_bytes());
     }
@@ -170,6 +171,26 @@ fn wrong_operands_of_panel_give_usage_and_status_64() {
 }
 
 #[test]
+fn the_program_says_whether_a_text_is_well_formed() {
+    for (text, line) in [
+        (&b""[..], &b"well\n"[..]),
+        (b"\0", b"well\n"),
+        (b"caf\xc3\xa9", b"well\n"),
+        (b"caf\xc3\xa9\n", b"well\n"),
+        (b"caf\xc3", b"broken at 4\n"),
+        (b"caf\xc3\n", b"broken at 4\n"),
+        (b"\xe0\x80\x80", b"broken at 1\n"),
+        (b"\xff", b"broken at 0\n"),
+    ] {
+        assert_eq!(printed(&["text"], text), line);
+    }
+    let mut long = vec![b'x'; 1 << 20];
+    assert_eq!(printed(&["text"], &long), b"well\n");
+    long.push(0x80);
+    assert_eq!(printed(&["text"], &long), b"broken at 1048576\n");
+}
+
+#[test]
 fn the_program_prints_the_date_of_every_day() {
     let dates = printed(&["dates"], b"");
     assert_eq!(dates, reference::calendar::all_dates().as_bytes());
@@ -270,6 +291,10 @@ fn anything_else_gives_usage_and_status_64() {
         &["marks"],
         &["vectors", "mark"],
         &["vectors", "marks", "4"],
+        &["texts"],
+        &["text", "file"],
+        &["vectors", "text"],
+        &["vectors", "texts", "4"],
         &["dates", "2000"],
         &["Vectors", "blocks"],
         &["--help"],

@@ -1,7 +1,8 @@
 //! Each refusal from both sides, and their order (document 01, the table;
-//! document 02, requests 3 and 7).
+//! document 02, requests 3, 7 and 9).
 
 use crate::edition::Edition;
+use crate::letters::{bad_text, good_text};
 use crate::random::Random;
 use crate::support::*;
 
@@ -15,7 +16,7 @@ fn is_key_length(length: usize) -> bool {
 }
 
 /// The tests of a write, in their order.
-const WRITE_ORDER: [u8; 8] = [1, 2, 4, 5, 14, 6, 7, 8];
+const WRITE_ORDER: [u8; 9] = [1, 2, 4, 5, 14, 6, 7, 15, 8];
 /// The tests of a read, in their order, but for 9 and 10 at the end.
 const READ_ORDER: [u8; 7] = [1, 2, 3, 4, 5, 14, 6];
 
@@ -206,8 +207,16 @@ fn near(key: &[u8]) -> Vec<u8> {
     key
 }
 
+/// A caption of so many bytes, more than 192, broken at one place or nowhere.
+fn overlong(random: &mut Random, length: usize, broken: bool) -> Vec<u8> {
+    let begin = if broken { bad_text } else { good_text };
+    let mut caption = begin(random, 192);
+    caption.resize(length, b'x');
+    caption
+}
+
 /// A call to which each refusal of the set applies, whatever else does, and 14
-/// only where it is in the set: `way` chooses among ways of provoking one.
+/// and 15 only where they are in the set: `way` chooses among ways of provoking one.
 pub fn call_for(
     set: &[u8],
     (edition, t): (Edition, usize),
@@ -218,7 +227,7 @@ pub fn call_for(
     let mut keys = unlike(random, t);
     let mut sheet = blank_for(edition, &keys, 3, t);
     let slot = 1;
-    let caption = random.bytes(40);
+    let caption = good_text(random, 40);
     if !provoke(9) {
         assert_eq!(write(&keys, &mut sheet, slot, &caption), accepted(0));
     }
@@ -263,10 +272,10 @@ pub fn call_for(
         } else {
             slot
         },
-        caption: if provoke(7) {
-            random.bytes([193, 194, 65728][way % 3])
-        } else {
-            caption
+        caption: match (provoke(7), provoke(15)) {
+            (true, broken) => overlong(random, [193, 194, 65728][way % 3], broken),
+            (false, true) => bad_text(random, [1, 2, 40, 191, 192][way % 5]),
+            (false, false) => caption,
         },
         window: vec![
             0xee;

@@ -2,6 +2,7 @@
 //! 02, requests 3 and 7).
 
 use crate::edition::Edition;
+use crate::letters::good_text;
 use crate::random::Random;
 use crate::support::*;
 use crate::term_sheet::{term_sheet, ALWAYS};
@@ -88,7 +89,7 @@ fn with_serial_0_marks_and_fields_are_those_of_edition_1() {
         let mut newer = newer.map(|edition| blank_for(edition, &keys, 3, t));
         for length in [0, 5, 8, 100, 192] {
             let slot = random.below(3);
-            let caption = random.bytes(length);
+            let caption = good_text(&mut random, length);
             assert_eq!(write(&keys, &mut old, slot, &caption), accepted(0));
             for new in &mut newer {
                 assert_eq!(write(&keys, new, slot, &caption), accepted(0));
@@ -109,7 +110,7 @@ fn with_one_serial_editions_2_and_3_differ_in_byte_3_and_the_key_mark_alone() {
             let mut three = blank_for(Edition::Three(serial), &keys, 3, t);
             for length in [0, 5, 8, 100, 192] {
                 let slot = random.below(3);
-                let caption = random.bytes(length);
+                let caption = good_text(&mut random, length);
                 assert_eq!(write(&keys, &mut two, slot, &caption), accepted(0));
                 assert_eq!(write(&keys, &mut three, slot, &caption), accepted(0));
                 let mut relabelled = two.clone();
@@ -130,7 +131,7 @@ fn the_check_does_not_depend_on_the_serial() {
     let editions = [Edition::Two(7), Edition::Three(7)].into_iter();
     for (edition, t) in editions.flat_map(|edition| CLASSES.map(|t| (edition, t))) {
         let keys = unlike(&mut random, t);
-        let longest = random.bytes(192);
+        let longest = good_text(&mut random, 192);
         let mut sheet = blank_for(edition, &keys, 2, t);
         assert_eq!(write(&keys, &mut sheet, 0, &longest), accepted(0));
         assert_eq!(write(&keys, &mut sheet, 1, b"short"), accepted(0));

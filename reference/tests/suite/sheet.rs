@@ -2,6 +2,7 @@
 //! requests 3 and 7).
 
 use crate::edition::Edition;
+use crate::letters::good_text;
 use crate::random::Random;
 use crate::support::*;
 use reference::modes::cbc_encrypt;
@@ -67,7 +68,7 @@ fn full_sheet(
     let mut sheet = blank_for(edition, keys, n, t);
     for slot in 0..n {
         let length = random.below(193);
-        let caption = random.bytes(length);
+        let caption = good_text(random, length);
         assert_eq!(write(keys, &mut sheet, slot, &caption), accepted(0));
     }
     sheet
@@ -85,7 +86,7 @@ fn a_write_stores_header_mark_and_field_and_nothing_else() {
             set_w(&mut sheet, w);
             let mut expected = sheet.clone();
 
-            let caption = random.bytes(length);
+            let caption = good_text(&mut random, length);
             assert_eq!(write(&keys, &mut sheet, slot, &caption), accepted(0));
 
             set_w(&mut expected, w + 1);
@@ -151,7 +152,7 @@ fn every_length_is_read_back() {
         let keys = unlike(&mut random, t);
         let mut sheet = blank_for(edition, &keys, 1, t);
         for length in 0..=192 {
-            let caption = random.bytes(length);
+            let caption = good_text(&mut random, length);
             assert_eq!(write(&keys, &mut sheet, 0, &caption), accepted(0));
             assert_eq!(w_of(&sheet), length as u32 + 1);
             let before = sheet.clone();

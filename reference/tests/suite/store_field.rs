@@ -3,6 +3,7 @@
 
 use crate::broken::NOWHERE;
 use crate::edition::Edition;
+use crate::letters::{bad_text, good_text};
 use crate::random::Random;
 use crate::refusals::{call_for, first, write_sets, WAYS};
 use crate::support::*;
@@ -38,7 +39,7 @@ fn a_caption_with_its_zeros_is_stored_as_a_write_stores_it() {
         let mut stored = written.clone();
         for length in 0..=192 {
             let slot = random.below(3);
-            let caption = random.bytes(length);
+            let caption = good_text(&mut random, length);
             assert_eq!(write(&keys, &mut written, slot, &caption), accepted(0));
             let answer = store(&keys, &mut stored, slot, length as u16, &shown(&caption));
             assert_eq!(answer, accepted(0));
@@ -85,6 +86,7 @@ fn the_field_is_sealed_as_it_is() {
     }
 }
 
+/// It never tests 15: with a broken caption it gives what comes after.
 #[test]
 fn it_gives_the_first_refusal_of_every_set() {
     let mut random = Random::new(152);
@@ -97,9 +99,15 @@ fn it_gives_the_first_refusal_of_every_set() {
                 } else {
                     [0, 40, 192][way % 3]
                 };
+                let field = if set.contains(&15) {
+                    shown(&bad_text(&mut random, usize::from(length).clamp(1, 192)))
+                } else {
+                    [9; 192]
+                };
+                let set: Vec<u8> = set.iter().copied().filter(|&test| test != 15).collect();
                 let mut sheet = call.sheet.clone();
                 let keys = (call.sealing, call.checking);
-                let answer = store(&keys, &mut sheet, call.slot, length, &[9; 192]);
+                let answer = store(&keys, &mut sheet, call.slot, length, &field);
                 assert_eq!(answer, refused(first(&set)), "{set:?} {way}");
                 assert_eq!(sheet == call.sheet, !set.is_empty(), "{set:?} {way}");
             }

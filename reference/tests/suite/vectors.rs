@@ -25,6 +25,12 @@ pub fn numbered_text(s: usize, length: usize) -> Vec<u8> {
     (0..length).map(|i| byte(i) as u8).collect()
 }
 
+/// The caption of a length with number s.
+pub fn numbered_caption(s: usize, length: usize) -> Vec<u8> {
+    let byte = |i| 32 + (53 * i + 31 * s + 7) % 95;
+    (0..length).map(|i| byte(i) as u8).collect()
+}
+
 #[test]
 fn blocks() {
     let text = vectors::blocks();
@@ -369,8 +375,8 @@ fn sheet() {
 
 /// A sheet of `vectors sheet` after its clear.
 fn cleared_sheet(keys: &(Vec<u8>, Vec<u8>), mut sheet: Vec<u8>) -> Vec<u8> {
-    let seventeen: Vec<u8> = (0..17).map(|i| ((53 * i + 7) % 256) as u8).collect();
-    let longest: Vec<u8> = (0..192).map(|i| ((31 * i + 5) % 256) as u8).collect();
+    let seventeen = numbered_caption(0, 17);
+    let longest = numbered_caption(1, 192);
     let writes: [(usize, &[u8]); 4] = [(0, b""), (1, &seventeen), (2, &longest), (1, b"abc")];
     for (slot, caption) in writes {
         assert_eq!(write(keys, &mut sheet, slot, caption), accepted(0));
@@ -431,7 +437,7 @@ fn faulted_sheets() -> impl Iterator<Item = (Edition, usize)> {
 fn faulted_sheet(keys: &(Vec<u8>, Vec<u8>), edition: Edition, t: usize) -> Vec<u8> {
     let mut sheet = blank_for(edition, keys, 3, t);
     for (slot, length) in [(0, 5), (1, 17), (2, 192)] {
-        let caption = numbered_text(slot, length);
+        let caption = numbered_caption(slot, length);
         assert_eq!(write(keys, &mut sheet, slot, &caption), accepted(0));
     }
     assert_eq!(reference::clear(&mut sheet, 1), accepted(0));

@@ -55,11 +55,17 @@ returns-12 : tie.Need-returns-12
 unfolding answerPointed answerNumber answerLength answerPoint
 returns-12 c = said answerPointed _ _ _ (c .before .enum-told9 .given .1) (c .at9 .ensures)
 
+returns-13 : tie.Need-returns-13
+unfolding answerPointed answerNumber answerLength answerPoint
+returns-13 c = said answerPointed _ _ _ (c .before .enum-told10 .given .1) (c .at10 .ensures)
+
 pub answer-pointed-spec : {M : Type 1} → statement M
 answer-pointed-spec =
     tie.close
     (tie.spec
     (λ c. search needs)
+    (λ c. search needs)
+    (λ c κs. search needs)
     (λ c. search needs)
     (λ c κs. search needs)
     (λ c. search needs)
@@ -93,4 +99,5 @@ answer-pointed-spec =
     returns-9
     returns-10
     returns-11
-    returns-12)
+    returns-12
+    returns-13)

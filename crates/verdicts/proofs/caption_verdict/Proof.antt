@@ -1,5 +1,6 @@
 use borrow.Author.Needs.{needs}
-use Rattle.verdicts.proofs.Verdicts.{caption-long, caption-worn, caption-pass}
+use borrow.Author.Tests.{not-true, not-false}
+use Rattle.verdicts.proofs.Verdicts.{caption-long, caption-broken, caption-worn, caption-pass}
 use Rattle.verdicts.proofs.caption_verdict.Statement.{statement}
 use Rattle.verdicts.proofs.caption_verdict.Tie as tie
 
@@ -9,5 +10,7 @@ caption-verdict-spec =
     (tie.spec
     (λ c. search caption-long)
     (λ c κs. search needs)
-    (λ c. search (caption-worn, needs))
-    (λ c. search (caption-pass, needs)))
+    (λ c. search (caption-broken, not-true, needs))
+    (λ c κs. search needs)
+    (λ c. search (caption-worn, not-false, needs))
+    (λ c. search (caption-pass, not-false, needs)))

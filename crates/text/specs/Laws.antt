@@ -1,0 +1,60 @@
+-- What holds of well-formed text (document 02, request 9): the grammar and the encoding of RFC 3629 are the same, where bytes break, and texts in plain values.
+use Prim.Native.Nat.{ℕ, _≤_, _<_}
+use mathlib.Core.Path.{_≡_}
+use mathlib.Core.Bool.{true, false}
+use mathlib.Core.List.{List, [], _∷_}
+use mathlib.Core.Logic.{_↔_}
+use Rattle.text.specs.Grammar.{UTF8, wellFormed}
+use Rattle.text.specs.Encoding.{CodePoint, CodePoints, Encoded, encode}
+use Rattle.text.specs.Place.{BreaksAt, brokenAt}
+
+-- the bytes s are well formed, are the encoding of these code points, and break nowhere
+pub record Whole (s points : List ℕ) (size : ℕ) : Type 0 where
+  pub encoded : encode points ≡ s
+  pub each : CodePoints points
+  pub accepted : wellFormed s ≡ true
+  pub unbroken : brokenAt s ≡ size
+
+-- the bytes s are not well formed, and break at place p
+pub record Broken (s : List ℕ) (p : ℕ) : Type 0 where
+  pub refused : wellFormed s ≡ false
+  pub place : brokenAt s ≡ p
+
+-- in plain values
+pub record Texts : Type 0 where
+  -- the examples of section 7: A, not identical to, Alpha and a full stop; Korean; Japanese; a letter above U+FFFF after a byte order mark
+  pub example-1 : Whole (0x41 ∷ 0xE2 ∷ 0x89 ∷ 0xA2 ∷ 0xCE ∷ 0x91 ∷ 0x2E ∷ []) (0x0041 ∷ 0x2262 ∷ 0x0391 ∷ 0x002E ∷ []) 7
+  pub example-2 : Whole (0xED ∷ 0x95 ∷ 0x9C ∷ 0xEA ∷ 0xB5 ∷ 0xAD ∷ 0xEC ∷ 0x96 ∷ 0xB4 ∷ []) (0xD55C ∷ 0xAD6D ∷ 0xC5B4 ∷ []) 9
+  pub example-3 : Whole (0xE6 ∷ 0x97 ∷ 0xA5 ∷ 0xE6 ∷ 0x9C ∷ 0xAC ∷ 0xE8 ∷ 0xAA ∷ 0x9E ∷ []) (0x65E5 ∷ 0x672C ∷ 0x8A9E ∷ []) 9
+  pub example-4 : Whole (0xEF ∷ 0xBB ∷ 0xBF ∷ 0xF0 ∷ 0xA3 ∷ 0x8E ∷ 0xB4 ∷ []) (0xFEFF ∷ 0x233B4 ∷ []) 7
+  -- no bytes; U+0000; the last code point, which is no character
+  pub nothing : Whole [] [] 0
+  pub zero : Whole (0x00 ∷ []) (0x0000 ∷ []) 1
+  pub last : Whole (0xF4 ∷ 0x8F ∷ 0xBF ∷ 0xBF ∷ []) (0x10FFFF ∷ []) 4
+  -- overlong in two bytes, in three and in four
+  pub overlong-2 : Broken (0xC1 ∷ 0xBF ∷ []) 0
+  pub overlong-3 : Broken (0xE0 ∷ 0x9F ∷ 0xBF ∷ []) 1
+  pub overlong-4 : Broken (0xF0 ∷ 0x8F ∷ 0xBF ∷ 0xBF ∷ []) 1
+  -- the first surrogate; above U+10FFFF by the second byte, and by the first
+  pub surrogate : Broken (0xED ∷ 0xA0 ∷ 0x80 ∷ []) 1
+  pub above-F4 : Broken (0xF4 ∷ 0x90 ∷ 0x80 ∷ 0x80 ∷ []) 1
+  pub above-F5 : Broken (0xF5 ∷ 0x80 ∷ 0x80 ∷ 0x80 ∷ []) 0
+  -- a tail alone; letters that are cut off, at the end and before another
+  pub tail-alone : Broken (0x41 ∷ 0x80 ∷ []) 1
+  pub cut-off-2 : Broken (0x41 ∷ 0xC3 ∷ []) 2
+  pub cut-off-3 : Broken (0xE2 ∷ 0x89 ∷ []) 2
+  pub cut-off-4 : Broken (0xF0 ∷ 0xA3 ∷ 0x8E ∷ []) 3
+  pub cut-off-within : Broken (0xE2 ∷ 0x89 ∷ 0x41 ∷ []) 2
+
+pub record TextLaws : Type 0 where
+  -- the test decides the grammar
+  pub tested : (s : List ℕ) → (wellFormed s ≡ true) ↔ UTF8 s
+  -- bytes meet the grammar exactly if they are the encoding of code points
+  pub exactly : (s : List ℕ) → UTF8 s ↔ Encoded s
+  -- and of no others
+  pub only : (ns ms : List ℕ) → encode ns ≡ encode ms → ns ≡ ms
+  -- a code point is a number below 0x110000 that is no surrogate
+  pub code-point : (n : ℕ) → CodePoint n ↔ ((n < 0x110000) × (0xD800 ≤ n → n ≤ 0xDFFF → ⊥))
+  -- the place at which bytes break, and no other
+  pub place : (s : List ℕ) (p : ℕ) → BreaksAt s p ↔ (brokenAt s ≡ p)
+  pub texts : Texts
