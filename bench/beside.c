@@ -17,6 +17,10 @@ enum { ROUNDS = 301, FULL = CAPTIONS_SHEET(256), DAY = 9000 };
 static uint8_t sealing[16], checking[16], text[65536], terms[CAPTIONS_TERMS(256)], out[192];
 static size_t slots, bytes;
 
+/* Captions of 192 bytes, well formed: ASCII, and 64 letters of three bytes. */
+static uint8_t ascii[192], letters[192];
+static const uint8_t *caption = ascii;
+
 typedef captions_answer call(void);
 
 static captions_answer plain(int number, int value)
@@ -38,7 +42,7 @@ static captions_answer dated_read_of(const uint8_t *sheet)
 }
 static captions_answer write_of(uint8_t *sheet)
 {
-    captions_pointed answer = captions_write(sealing, 16, checking, 16, sheet, bytes, slots - 1, text, 192);
+    captions_pointed answer = captions_write(sealing, 16, checking, 16, sheet, bytes, slots - 1, caption, 192);
     return plain(answer.number, answer.length);
 }
 
@@ -87,7 +91,7 @@ static captions_answer dated_before(void)
 static captions_answer dated_after(void) { return dated_read_of(sheet); }
 static captions_answer write_before(void)
 {
-    BEFORE answer = before_captions_write(sealing, 16, checking, 16, sheet, bytes, slots - 1, text, 192);
+    BEFORE answer = before_captions_write(sealing, 16, checking, 16, sheet, bytes, slots - 1, caption, 192);
     return plain(answer.number, answer.length);
 }
 static captions_answer write_after(void) { return write_of(sheet); }
@@ -179,7 +183,7 @@ static void lay_out(uint8_t *sheet, size_t n, uint8_t edition)
 static void fill(uint8_t *sheet)
 {
     for (size_t i = 0; i < slots; i++)
-        captions_write(sealing, 16, checking, 16, sheet, bytes, i, text, 192);
+        captions_write(sealing, 16, checking, 16, sheet, bytes, i, ascii, 192);
 }
 
 #ifdef BEFORE
@@ -218,7 +222,11 @@ static void rows(void)
         row(name, read_before, read_after);
         snprintf(name, sizeof name, "dated read, full sheet, %zu", n);
         row(name, dated_before, dated_after);
-        snprintf(name, sizeof name, "write, full sheet, %zu", n);
+        caption = ascii;
+        snprintf(name, sizeof name, "write of ASCII, full sheet, %zu", n);
+        row(name, write_before, write_after);
+        caption = letters;
+        snprintf(name, sizeof name, "write of 3-byte letters, full sheet, %zu", n);
         row(name, write_before, write_after);
     }
 }
@@ -260,6 +268,10 @@ int main(void)
 {
     for (size_t i = 0; i < sizeof text; i++)
         text[i] = (uint8_t)(53 * i + 7);
+    for (size_t i = 0; i < sizeof letters; i++) {
+        ascii[i] = (uint8_t)(32 + (53 * i + 7) % 95);
+        letters[i] = (uint8_t)"\xe2\x82\xac"[i % 3];
+    }
     for (size_t i = 0; i < 16; i++) {
         sealing[i] = (uint8_t)(29 * i + 13);
         checking[i] = (uint8_t)(31 * i + 5);

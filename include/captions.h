@@ -2,7 +2,7 @@
  *
  * Link libcaptions_c.a: `make` puts it into build/, and where it is installed
  * `pkg-config --cflags --libs captions` names it. There is a shared library too,
- * libcaptions_c.so.0.6, for languages that load one. It is for Linux on x86-64.
+ * libcaptions_c.so.0.7, for languages that load one. It is for Linux on x86-64.
  *
  * The library takes any length and any number: what it can't use, it refuses.
  * It can't see whether a pointer is good, so every caller owes this:
@@ -29,7 +29,7 @@ extern "C" {
 /* The version of this header, and that of the library that is linked. The two
  * are meant to be equal; where they aren't, a call may not be as it is declared
  * here. The text is the library's own and stays. */
-#define CAPTIONS_VERSION "0.6.1"
+#define CAPTIONS_VERSION "0.7.0"
 const char *captions_version(void);
 
 /* What a call answers, reads and writes aside: number is CAPTIONS_ACCEPTED or a
@@ -146,8 +146,10 @@ enum {
     CAPTIONS_NOT_ON_SHOW = 12,    /* a dated read before the slot's opening day
                                      or after its closing day */
     CAPTIONS_NO_SUCH_ROUND = 13,  /* the bench: a round above CAPTIONS_ROUNDS */
-    CAPTIONS_OTHER_KEYS = 14      /* a sheet of edition 3: its key mark isn't
+    CAPTIONS_OTHER_KEYS = 14,     /* a sheet of edition 3: its key mark isn't
                                      that of the two keys */
+    CAPTIONS_BROKEN_TEXT = 15     /* a write of a caption that isn't UTF-8 of
+                                     RFC 3629; captions_broken_at says where */
 };
 
 /* The word of each number, for a table of strings:
@@ -157,7 +159,7 @@ enum {
         "accepted", "wrong key", "twin keys", "wrong span", "unfit sheet",     \
             "other key class", "no such slot", "overlong", "worn", "blank",    \
             "altered", "no such date", "not on show", "no such round",         \
-            "other keys"                                                       \
+            "other keys", "broken text"                                        \
     }
 
 #define CAPTIONS_BLOCK 8     /* bytes of a block, an array or their output */
@@ -269,13 +271,24 @@ captions_answer captions_blank(uint8_t *sheet, size_t sheet_len,
  * every pair with another mark. One of edition 1 or 2 has no key mark: there
  * another pair of the right length writes, and which pair a slot was written
  * with is for the caller to know.
+ *
+ * A caption is UTF-8 of RFC 3629, of whole letters: no overlong forms, no
+ * surrogates, nothing above U+10FFFF. A text that is cut at 192 bytes can end
+ * inside a letter. No other call tests the text: what an earlier version wrote
+ * is read as it is.
  * Refusals: WRONG_KEY, TWIN_KEYS, UNFIT_SHEET, OTHER_KEY_CLASS, OTHER_KEYS,
- * NO_SUCH_SLOT, OVERLONG, WORN. */
+ * NO_SUCH_SLOT, OVERLONG, BROKEN_TEXT, WORN. */
 captions_pointed captions_write(const uint8_t *sealing_key, size_t sealing_len,
                                 const uint8_t *checking_key,
                                 size_t checking_len,
                                 uint8_t *sheet, size_t sheet_len, size_t slot,
                                 const uint8_t *caption, size_t caption_len);
+
+/* Where a text of any length breaks: the place, from 0, of the first byte at
+ * which no well-formed text can go on, or text_len where there is none. So it is
+ * text_len for a well-formed text, and also for one whose last letter is cut off:
+ * a write takes the one and refuses the other. */
+size_t captions_broken_at(const uint8_t *text, size_t text_len);
 
 /* Makes a slot blank; a blank one stays blank. It takes no keys, so anybody's
  * clear is done. Refusals: UNFIT_SHEET, NO_SUCH_SLOT. */

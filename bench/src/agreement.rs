@@ -5,7 +5,8 @@ use crate::baseline::{self, Looped, SameIdeas, Style};
 use crate::dates::{self, Conversions};
 use differential::random::Random;
 use differential::sheets::{
-    caption_length, fit_sheet, kinds, near_sheet, Keys, CLASSES, FAULTS, FIELD,
+    caption_length, fit_sheet, kinds, near_sheet, set_last_number, some_caption, Keys, CLASSES,
+    FAULTS, FIELD,
 };
 use differential::terms::{day_near, some_terms, FAR_DAYS};
 use reference::Answer;
@@ -99,18 +100,19 @@ fn panels<S: Style>(random: &mut Random) -> u64 {
     compared
 }
 
-/// Lists of calls, each answer and every byte compared.
+/// Lists of calls, each answer and every byte compared; some sheets wear out.
 fn sheets<S: Style>(random: &mut Random) -> u64 {
     let mut compared = 0;
     for (edition, t) in kinds() {
         for n in [1, 2, 3, 16] {
             let keys = Keys::unlike(random, t);
-            let blank = keys.blank_sheet(edition, n, t);
+            let mut blank = keys.blank_sheet(edition, n, t);
+            set_last_number(&mut blank, random.pick(&[0, u32::MAX - 20]));
             let mut sheets = [blank.clone(), blank];
             for _ in 0..150 {
                 let slot = random.below(n + 1);
                 let length = caption_length(random) + random.pick(&[0, 0, 0, 193]);
-                let caption = random.bytes(length);
+                let caption = some_caption(random, length);
                 let keys = if random.once_in(8) {
                     Keys::unlike(random, t)
                 } else {

@@ -9,14 +9,16 @@
 //! and a written mark's last bytes compared as one number.
 //!
 //! A read, a dated read and a write test the key mark of edition 3 as the library
-//! does, so that what is compared does the same.
+//! does, and a write tests its caption, here by Rust's own `from_utf8`, so that what is
+//! compared does the same.
 
 use reference::{
-    Answer, ALTERED, BLANK, NOT_ON_SHOW, NO_SUCH_DATE, NO_SUCH_SLOT, OTHER_KEYS, OTHER_KEY_CLASS,
-    OVERLONG, TWIN_KEYS, UNFIT_SHEET, WORN, WRONG_KEY, WRONG_SPAN,
+    Answer, ALTERED, BLANK, BROKEN_TEXT, NOT_ON_SHOW, NO_SUCH_DATE, NO_SUCH_SLOT, OTHER_KEYS,
+    OTHER_KEY_CLASS, OVERLONG, TWIN_KEYS, UNFIT_SHEET, WORN, WRONG_KEY, WRONG_SPAN,
 };
 use std::array::from_fn;
 use std::hint::black_box;
+use std::str::from_utf8;
 
 type Words = [u16; 4];
 
@@ -714,6 +716,9 @@ pub fn write<S: Style>(
     }
     if caption.len() > FIELD {
         return Answer::refused(OVERLONG);
+    }
+    if from_utf8(caption).is_err() {
+        return Answer::refused(BROKEN_TEXT);
     }
     let Some(write_number) = header.w.checked_add(1) else {
         return Answer::refused(WORN);

@@ -10,6 +10,7 @@ mod timing;
 
 use baseline::{Looped, SameIdeas};
 use differential::edition::Edition;
+use differential::letters::good_text;
 use differential::library;
 use differential::random::Random;
 use differential::sheets::{set_last_number, Keys, CLASSES, FIELD};
@@ -17,6 +18,7 @@ use differential::term_sheet::{term_sheet, ALWAYS, LAST_DAY};
 use meter::{figure, Aims, Meter};
 use reference::{Answer, Pointed};
 use std::hint::black_box;
+use std::str::from_utf8;
 use timing::{timed, Timed, ROUNDS, SAMPLE};
 
 fn main() {
@@ -51,6 +53,7 @@ fn measure(meter: &mut Meter) {
     cmacs(meter, &mut random);
     panels(meter, &mut random);
     sheets(meter, &mut random);
+    texts(meter, &mut random);
     conversions(meter, &mut random);
 }
 
@@ -235,16 +238,19 @@ fn sheets(meter: &mut Meter, random: &mut Random) {
 128-bit keys, sheets of edition 3, which blanking makes. Full: every slot holds a
 caption of 192 bytes; blank: none does. A read opens, a write seals and a clear empties
 the last slot, each after the layout test of the whole sheet. CBC has no call of its
-own: a write is 25 encryptions by CBC, 26 by CMAC, 3 for the key mark and the layout
-test, a read the same with 24 decryptions; the baseline tests the key mark too. A dated
-read is a read after the test of the whole term sheet, with every slot on show. The
-layout test alone is a clear of slot n, which is refused after that test.",
+own: a write is 25 encryptions by CBC, 26 by CMAC, 3 for the key mark, the layout test
+and the test of 192 bytes of text, ASCII or letters of three bytes; a read is the same
+with 24 decryptions and without the text's test. The baseline tests the key mark too,
+and the text by Rust's own from_utf8. A dated read is a read after the test of the whole
+term sheet, with every slot on show. The layout test alone is a clear of slot n, which is
+refused after that test.",
         "Call | Sheet | Slots | Library | Baseline | Same ideas in Rust | Ratio | To same ideas | Instructions | Second program",
     );
-    let calls: [(&str, &str, SheetCalls, Aims); 6] = [
+    let calls: [(&str, &str, SheetCalls, Aims); 7] = [
         ("read", "full", reads, Aims::Reads),
         ("dated read", "full", dated_reads, Aims::DatedReads),
-        ("write", "full", writes, Aims::Writes),
+        ("write, ASCII", "full", ascii_writes, Aims::Writes),
+        ("write, 3-byte letters", "full", letter_writes, Aims::Writes),
         ("clear", "full", clears, Aims::None),
         ("layout test", "full", layout_tests, Aims::Layout),
         ("layout test", "blank", layout_tests, Aims::Layout),
@@ -278,14 +284,14 @@ layout test alone is a clear of slot n, which is refused after that test.",
 fn fill(random: &mut Random, keys: &Keys, sheet: &mut [u8], n: usize) {
     set_last_number(sheet, 1_000_000);
     for slot in 0..n {
-        let caption = random.bytes(FIELD);
+        let caption = good_text(random, FIELD);
         let answer = library::write(&keys.sealing, &keys.checking, sheet, slot, &caption);
         assert_eq!(answer.number, 0);
     }
 }
 
 /// The baseline's answer in the library's form. It looks for no rule where it
-/// refuses; no refused call is timed but the layout test alone.
+/// refuses; no refused call is timed but the layout test alone and the test of a text.
 #[inline]
 fn pointed(answer: Answer) -> Pointed {
     Pointed {
@@ -352,8 +358,17 @@ fn dated_reads(keys: &Keys, sheet: &[u8], n: usize) -> Vec<Timed<'static>> {
 
 type Write = fn(&[u8], &[u8], &mut [u8], usize, &[u8]) -> Pointed;
 
-fn writes(keys: &Keys, sheet: &[u8], n: usize) -> Vec<Timed<'static>> {
-    let caption = [0x41; FIELD];
+fn ascii_writes(keys: &Keys, sheet: &[u8], n: usize) -> Vec<Timed<'static>> {
+    writes(keys, sheet, n, "A")
+}
+
+fn letter_writes(keys: &Keys, sheet: &[u8], n: usize) -> Vec<Timed<'static>> {
+    writes(keys, sheet, n, "\u{20ac}")
+}
+
+/// The longest caption of a letter.
+fn writes(keys: &Keys, sheet: &[u8], n: usize, letter: &str) -> Vec<Timed<'static>> {
+    let caption = letter.repeat(FIELD / letter.len()).into_bytes();
     let writes: [Write; 4] = [
         library::write,
         |k, m, s, i, c| pointed(baseline::write::<Looped>(k, m, s, i, c)),
@@ -362,7 +377,7 @@ fn writes(keys: &Keys, sheet: &[u8], n: usize) -> Vec<Timed<'static>> {
     ];
     writes
         .map(|write| {
-            let (keys, mut sheet) = (keys.clone(), sheet.to_vec());
+            let (keys, mut sheet, caption) = (keys.clone(), sheet.to_vec(), caption.clone());
             timed(move || {
                 let (keys, sheet) = black_box((&keys, &mut sheet));
                 let caption = black_box(&caption);
@@ -394,6 +409,69 @@ fn clears_of(sheet: &[u8], slot: usize) -> Vec<Timed<'static>> {
         timed(move || clear(black_box(&mut sheet), black_box(slot)))
     })
     .into()
+}
+
+// ---- Texts ----
+
+fn texts(meter: &mut Meter, random: &mut Random) {
+    meter.head(
+        "Texts: ns for each caption of 192 bytes",
+        "\
+A write to a worn sheet of edition 1 with one slot makes every test and no block: it is
+refused with 8, after the test of the text. Its scan is what it takes more than the same
+write of an empty caption, by the medians of both. The baseline's scan is from_utf8,
+measured in the same way, and beside it alone. captions_broken_at looks for the place
+where a text breaks, and a write doesn't.",
+        "Text | Library, refused write | Its scan | Baseline, refused write | Its scan | Ratio of the scans | Instructions of the scans | from_utf8 alone | captions_broken_at | Second program's scan",
+    );
+    let keys = Keys::unlike(random, 8);
+    let mut worn = keys.blank_sheet(Edition::One, 1, 8);
+    set_last_number(&mut worn, u32::MAX);
+    for (name, letters) in [
+        ("ASCII", "A"),
+        ("an accent among 10 of ASCII", "porcelain\u{e9} "),
+        ("2-byte letters", "\u{e9}"),
+        ("3-byte letters", "\u{20ac}"),
+        ("4-byte letters", "\u{1f3fa}"),
+    ] {
+        let text = letters.repeat(FIELD / letters.len()).into_bytes();
+        let row = meter.row(scans(&keys, &worn, &text));
+        let (ours, theirs) = (row.more(0, 1), row.more(2, 3));
+        meter.print(&[
+            name,
+            &figure(row.nanoseconds(0)),
+            &figure(ours),
+            &figure(row.nanoseconds(2)),
+            &figure(theirs),
+            &format!("{:.2}", ours / theirs),
+            &row.more_instructions([0, 1, 2, 3]),
+            &figure(row.nanoseconds(4)),
+            &figure(row.nanoseconds(5)),
+            &figure(row.nanoseconds(6)),
+        ]);
+    }
+}
+
+/// The library's refused write of a text and of none, the baseline's, and the scans
+/// alone.
+fn scans<'a>(keys: &'a Keys, worn: &[u8], text: &'a [u8]) -> Vec<Timed<'a>> {
+    let refused = |write: Write, text: &'a [u8]| {
+        let mut worn = worn.to_vec();
+        timed(move || {
+            let (keys, text) = black_box((keys, text));
+            write(&keys.sealing, &keys.checking, black_box(&mut worn), 0, text)
+        })
+    };
+    let baseline: Write = |k, m, s, i, c| pointed(baseline::write::<Looped>(k, m, s, i, c));
+    vec![
+        refused(library::write, text),
+        refused(library::write, b""),
+        refused(baseline, text),
+        refused(baseline, b""),
+        timed(move || from_utf8(black_box(text)).is_ok()),
+        timed(move || library::broken_at(black_box(text))),
+        timed(move || reference::well_formed(black_box(text))),
+    ]
 }
 
 // ---- Dates ----

@@ -137,6 +137,11 @@ impl Row {
         samples.map_or(0.0, |s| s.nanoseconds(call) / self.times)
     }
 
+    /// What a call takes more than another.
+    pub fn more(&self, call: usize, than: usize) -> f64 {
+        self.nanoseconds(call) - self.nanoseconds(than)
+    }
+
     pub fn ratio(&self, call: usize, to: usize) -> f64 {
         self.samples.as_ref().map_or(0.0, |s| s.ratio(call, to))
     }
@@ -150,6 +155,18 @@ impl Row {
         match (self.counts.get(call), self.counts.get(to)) {
             (Some(count), Some(other)) => {
                 format!("{:.0} ({:.2})", count / self.times, count / other)
+            }
+            _ => "-".to_string(),
+        }
+    }
+
+    /// Instructions that a call takes more than another, and their part of those that a
+    /// third takes more than a fourth.
+    pub fn more_instructions(&self, calls: [usize; 4]) -> String {
+        match calls.map(|call| self.counts.get(call)) {
+            [Some(call), Some(than), Some(other), Some(than_other)] => {
+                let more = call - than;
+                format!("{:.0} ({:.2})", more, more / (other - than_other))
             }
             _ => "-".to_string(),
         }

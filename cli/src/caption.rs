@@ -75,3 +75,15 @@ pub fn hint_at_line_feed(caption: &[u8]) {
         hint("the caption ends with a line feed, which is kept; printf '%s' gives none");
     }
 }
+
+/// Tells somebody at a terminal what a broken text may be: where no letter beyond
+/// ASCII is whole, it is hardly UTF-8 at all.
+pub fn hint_at_character_set(caption: &[u8]) {
+    let mut chunks = caption.utf8_chunks();
+    if chunks.all(|chunk| chunk.valid().is_ascii() && chunk.invalid().len() <= 1) {
+        hint(
+            "the text may be in another character set; iconv -f LATIN1 -t UTF-8 makes UTF-8 \
+             of Latin-1",
+        );
+    }
+}

@@ -107,7 +107,7 @@ fn write(file: &Path, slot: &OsStr, keys: &Path, words: &Words) -> Result<(), Fa
     let keys = Keys::of_file(keys)?;
     let caption = source.bytes("caption")?;
     let mut is_there = false;
-    sheet_file::change(file, wait, |sheet| {
+    let changed = sheet_file::change(file, wait, |sheet| {
         is_there = !words.has("--again") && holds(sheet, &keys, slot, &caption);
         if is_there {
             return Ok(());
@@ -123,7 +123,11 @@ fn write(file: &Path, slot: &OsStr, keys: &Path, words: &Words) -> Result<(), Fa
             };
             given.refused(refusal)
         })
-    })?;
+    });
+    if let Err(Failure::Refused(Refusal::BrokenText(_), _)) = changed {
+        caption::hint_at_character_set(&caption);
+    }
+    changed?;
     if is_there {
         warn(&format!(
             "unchanged: slot {slot} holds that caption; --again writes it all the same"

@@ -7,7 +7,7 @@ use std::fmt::Display;
 use std::io;
 use std::path::Path;
 
-/// Exit statuses beside those of the refusals, which are 1 to 14 and may come
+/// Exit statuses beside those of the refusals, which are 1 to 15 and may come
 /// to 16. Most are the numbers that sysexits.h gives to a wrong command line,
 /// wrong data, missing input, output that can't be made, failed input or output
 /// and "try again later".

@@ -90,6 +90,17 @@ Every byte counts, a line feed at the end too: printf '%s' 'Vase' gives a
 caption without one, and so does --text. At a terminal a caption is typed, and
 Ctrl-D pressed twice ends it; Enter before that is a line feed, which is kept.
 
+A caption has at most 192 bytes (exit status 7) and is UTF-8 text of whole
+letters (exit status 15). A letter has one to four bytes. To see how many bytes
+a text has:
+
+    printf '%s' \"$text\" | wc -c
+
+A text that is cut at 192 bytes, as by head -c 192, can lose a part of its last
+letter. It is then refused, with the byte, from 0, at which it breaks, and why:
+shorten it by whole letters. Text in another character set breaks too; iconv -f
+LATIN1 -t UTF-8 makes UTF-8 of Latin-1.
+
 A caption of no bytes is written only where --empty is given. Input that is
 empty is taken for input that was lost, and nothing is written (exit status
 66): from a command before the pipe that failed, say, or an unset variable.
@@ -102,7 +113,7 @@ One pair of keys serves a sheet: with other keys than those that it was blanked
 with nothing is written (exit status 14). A sheet of edition 1 or 2, which has
 no mark of its keys, takes any keys of the right length.
 ",
-        statuses: &[1, 2, 4, 5, 6, 7, 8, 14, 65, 66, 73, 75, 79],
+        statuses: &[1, 2, 4, 5, 6, 7, 8, 14, 15, 65, 66, 73, 75, 79],
     },
     Page {
         name: "read",
@@ -116,7 +127,8 @@ no mark of its keys, takes any keys of the right length.
         summary: "print a caption",
         about: "\
 Prints the caption of a slot: its bytes as they were written, with no line feed
-added, unless standard output is a terminal. A refusal prints nothing on
+added, unless standard output is a terminal. They aren't tested: what captions
+before 0.7.0 wrote that isn't UTF-8 is printed too. A refusal prints nothing on
 standard output.
 
 One pair of keys serves a sheet: with other keys than those that it was blanked
@@ -247,9 +259,10 @@ An altered slot has no line, so that an import of the table leaves it alone. It
 is named on standard error, and the exit status is then 10.
 
 In a text, \\t is a tab, \\n a line feed, \\r a carriage return, \\\\ a backslash,
-and \\x with two hex digits a byte, for control characters and what isn't UTF-8.
-\\& is nothing: it stands first where a spreadsheet could take the text for a
-number, a date, a formula or a quotation, and alone for a caption of no bytes.
+and \\x with two hex digits a byte, for control characters and what isn't UTF-8
+in captions from before 0.7.0. \\& is nothing: it stands first where a
+spreadsheet could take the text for a number, a date, a formula or a quotation,
+and alone for a caption of no bytes.
 ",
         statuses: &[1, 2, 4, 5, 10, 14, 65, 66],
     },
@@ -293,7 +306,9 @@ The table may be as spreadsheets save it: UTF-8, or UTF-16 with a byte order
 mark; lines that end with a carriage return; texts in quotation marks, with the
 mark doubled inside; empty lines and empty columns at the end. A text that isn't
 UTF-8 or is blanks alone, a column too many or a slot that is there twice is
-refused. Every line that can't be imported is named, and then none is imported.
+refused. So is a caption that its \\x escapes make other than UTF-8 (exit status
+15), unless the slot holds it already. Every line that can't be imported is
+named, and then none is imported.
 
 With --dry-run it prints a line for each change, with tabs between slot, \"write\"
 or \"clear\", the caption's bytes of 192, old text and new text. The last line
@@ -301,7 +316,7 @@ counts:
 
     writes 2 clears 0 unchanged 6
 ",
-        statuses: &[1, 2, 4, 5, 6, 7, 8, 10, 14, 65, 66, 73, 75, 79],
+        statuses: &[1, 2, 4, 5, 6, 7, 8, 10, 14, 15, 65, 66, 73, 75, 79],
     },
     Page {
         name: "keys",
@@ -455,7 +470,7 @@ Prints what a command does, or without COMMAND what there is. A command's own
 ];
 
 /// The exit statuses and their meanings. A refusal's begins with its word.
-const STATUSES: [(u8, &str); 22] = [
+const STATUSES: [(u8, &str); 23] = [
     (0, "done"),
     (
         1,
@@ -494,6 +509,10 @@ const STATUSES: [(u8, &str); 22] = [
     (
         14,
         "other keys: the sheet was blanked with other keys than those in KEYS, or\nits serial or mark was changed",
+    ),
+    (
+        15,
+        "broken text: the caption isn't UTF-8 of RFC 3629; the line before says\nwhere it breaks and why",
     ),
     (64, "the command line is wrong"),
     (65, "KEYS, KEYFILE or the table isn't in its form"),
@@ -620,10 +639,9 @@ edition 3 the mark covers the serial.
 Messages:
 Standard error has a line for every exit status but 0; a refusal's last line is
 its number and word alone, and the line before it has what else is known: the
-rule that is broken, or what was given and what is allowed. Warnings and hints
-are there too. Control characters
-in a file's name are shown as escapes. A reader that closes the pipe early, as
-head does, is no error.
+rule that is broken, what was given and what is allowed, or where a text breaks.
+Warnings and hints are there too. Control characters in a file's name are shown
+as escapes. A reader that closes the pipe early, as head does, is no error.
 ";
 
 const EXAMPLES: &str = "

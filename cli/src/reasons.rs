@@ -34,6 +34,7 @@ impl Given<'_> {
 
     /// In words; none where the refusal's own word says it all.
     pub fn reason(&self, refusal: Refusal) -> Option<String> {
+        let is_named = refusal.to_string() != refusal.word();
         match refusal {
             Refusal::WrongKey => self.wrong_key(),
             Refusal::WrongSpan => self.wrong_span(),
@@ -52,9 +53,8 @@ impl Given<'_> {
                 None => Fault::Terms.to_string(),
             }),
             Refusal::UnfitSheet(fault) => Some(self.unfit_sheet(fault)),
-            Refusal::Altered(change) if refusal.to_string() != refusal.word() => {
-                Some(change.to_string())
-            }
+            Refusal::Altered(change) if is_named => Some(change.to_string()),
+            Refusal::BrokenText(found) if is_named => Some(found.to_string()),
             _ => None,
         }
     }
@@ -171,11 +171,14 @@ fn slots_in(terms: &[u8]) -> Option<usize> {
 }
 
 fn overlong(name: &str, length: usize, most: usize) -> String {
-    let length = match length > MOST_COUNTED {
-        true => format!("more than {MOST_COUNTED} bytes"),
-        false => bytes(length),
-    };
-    format!("{length}, where a {name} has at most {most}")
+    let allowed = format!("where a {name} has at most {most}");
+    match length > MOST_COUNTED {
+        true => format!("more than {MOST_COUNTED} bytes, {allowed}"),
+        false => {
+            let over = length.saturating_sub(most);
+            format!("{}, {allowed}: {over} too many", bytes(length))
+        }
+    }
 }
 
 fn bytes(count: usize) -> String {

@@ -21,7 +21,7 @@ SIZE_MAX = 2**64 - 1
 HEX = rb"((?:[0-9a-fA-F]{2})*)"
 WORDS = ("accepted", "wrong key", "twin keys", "wrong span", "unfit sheet", "other key class",
          "no such slot", "overlong", "worn", "blank", "altered", "no such date", "not on show",
-         "no such round", "other keys")
+         "no such round", "other keys", "broken text")
 RULE_WORDS = ("no rule", "fewer than 8 bytes", "not 1 to 256 slots (bytes 0 and 1)",
               "not 4, 6 or 8 key words (byte 2)", "not edition 1, 2 or 3 (byte 3)",
               "a byte of the header that is not zero", "another length than so many slots have",

@@ -41,12 +41,14 @@ mod fault;
 mod library;
 mod refusal;
 mod terms;
+mod text;
 
 pub use date::Date;
 pub use fault::{Change, Fault};
 use library::{Answer, Pointed};
 pub use refusal::Refusal;
 pub use terms::{terms_blank, terms_on_show, terms_set};
+pub use text::{Break, BreakKind};
 
 /// The bytes of a block or an array, and of an output.
 pub const BLOCK: usize = 8;
@@ -314,12 +316,17 @@ pub fn blank(
 /// mark: there another pair of the right length writes, and which pair a slot was
 /// written with is for the caller to know.
 ///
+/// A caption is UTF-8 of RFC 3629, of whole letters: no overlong forms, no
+/// surrogates, nothing above U+10FFFF. The bytes of any `str` are, but a text that is
+/// cut at 192 bytes can end inside a letter. No other function tests the text: what
+/// an earlier version wrote is read as it is.
+///
 /// # Errors
 ///
 /// In the order of the tests: [`Refusal::WrongKey`], [`Refusal::TwinKeys`],
 /// [`Refusal::UnfitSheet`], [`Refusal::OtherKeyClass`], [`Refusal::OtherKeys`],
-/// [`Refusal::NoSuchSlot`], [`Refusal::Overlong`] and [`Refusal::Worn`]; `sheet`
-/// is then as it was.
+/// [`Refusal::NoSuchSlot`], [`Refusal::Overlong`], [`Refusal::BrokenText`] and
+/// [`Refusal::Worn`]; `sheet` is then as it was.
 ///
 /// ```
 /// use captions::{blank, list, sheet_len, write, Refusal};
@@ -345,7 +352,28 @@ pub fn write(
     caption: &[u8],
 ) -> Result<(), Refusal> {
     let answer = library::write(sealing_key, checking_key, sheet, slot, caption);
-    pointed(answer, sheet).map(|_| ())
+    match pointed(answer, sheet) {
+        Ok(_) => Ok(()),
+        // The answer doesn't say where the text breaks, but the text is here.
+        Err(Refusal::BrokenText(_)) => Err(Refusal::BrokenText(Break::of_broken(caption))),
+        Err(refusal) => Err(refusal),
+    }
+}
+
+/// Where a text of any length breaks: the first byte, from 0, at which no well-formed
+/// text can go on, or the length where there is none. That is so of a well-formed
+/// text, and also of one whose last letter is cut off.
+///
+/// ```
+/// use captions::broken_at;
+///
+/// assert_eq!(broken_at("Café.".as_bytes()), 6);
+/// assert_eq!(broken_at(b"Caf\xc3"), 4);
+/// assert_eq!(broken_at(b"Caf\xc3."), 4);
+/// assert_eq!(broken_at(b"Caf\xff"), 3);
+/// ```
+pub fn broken_at(text: &[u8]) -> usize {
+    library::broken_at(text)
 }
 
 /// Makes a slot blank; a blank one stays blank. It takes no keys, so anybody's
@@ -616,7 +644,18 @@ fn done(answer: Answer) -> Result<(), Refusal> {
 ///     match refusal {
 ///         WrongKey | TwinKeys | WrongSpan | UnfitSheet(_) | OtherKeyClass => 1,
 ///         NoSuchSlot | Overlong | Worn | Blank | Altered(_) | NoSuchDate => 2,
-///         NotOnShow | NoSuchRound | OtherKeys | Other(_) => 3,
+///         NotOnShow | NoSuchRound | OtherKeys | BrokenText(_) | Other(_) => 3,
+///     }
+/// }
+/// ```
+///
+/// ```compile_fail,E0004
+/// use captions::BreakKind::{self, *};
+///
+/// fn of_kind(kind: BreakKind) -> u8 {
+///     match kind {
+///         CutOffAtEnd | CutOff | Continuation | OverlongForm => 1,
+///         Surrogate | TooHigh | NoLetter | Unnamed => 2,
 ///     }
 /// }
 /// ```

@@ -107,6 +107,7 @@ mod c {
             caption: *const u8,
             caption_len: usize,
         ) -> Pointed;
+        pub fn captions_broken_at(text: *const u8, text_len: usize) -> usize;
         pub fn captions_clear(sheet: *mut u8, sheet_len: usize, slot: usize) -> Answer;
         pub fn captions_read(
             sealing_key: *const u8,
@@ -262,6 +263,11 @@ pub fn write(
             caption.len(),
         )
     }
+}
+
+pub fn broken_at(text: &[u8]) -> usize {
+    // SAFETY: as at the head of this file.
+    unsafe { c::captions_broken_at(text.as_ptr(), text.len()) }
 }
 
 pub fn clear(sheet: &mut [u8], slot: usize) -> Answer {

@@ -2,12 +2,14 @@
 
 use crate::fault::{Change, Fault};
 use crate::library::Pointed;
+use crate::text::{Break, BreakKind};
 use std::fmt;
 
 /// Why a call was refused. Shown as the word that the kiosk shows instead of a
 /// caption, which [`word`](Refusal::word) gives alone; behind the word of an
-/// unfit sheet and of an altered slot stands the rule that gave it. A later
-/// version may have more of them, so a `match` wants an arm for the others.
+/// unfit sheet and of an altered slot stands the rule that gave it, behind that of
+/// a broken text where and why it breaks. A later version may have more of them, so
+/// a `match` wants an arm for the others.
 ///
 /// ```
 /// use captions::{Change, Fault, Refusal};
@@ -62,13 +64,15 @@ pub enum Refusal {
     NoSuchRound,
     /// 14: a sheet of edition 3 whose key mark isn't that of the two keys.
     OtherKeys,
+    /// 15: a write of a caption that isn't UTF-8 of RFC 3629. With where and why.
+    BrokenText(Break),
     /// A number that this crate has no word for, shown as "refused". The library
     /// never gives one: this is what stands in for a panic if it did.
     Other(u8),
 }
 
-/// The refusals that have a word, in the order of their numbers, 1 to 14.
-const WORDS: [(Refusal, &str); 14] = [
+/// The refusals that have a word, in the order of their numbers, 1 to 15.
+const WORDS: [(Refusal, &str); 15] = [
     (Refusal::WrongKey, "wrong key"),
     (Refusal::TwinKeys, "twin keys"),
     (Refusal::WrongSpan, "wrong span"),
@@ -83,6 +87,7 @@ const WORDS: [(Refusal, &str); 14] = [
     (Refusal::NotOnShow, "not on show"),
     (Refusal::NoSuchRound, "no such round"),
     (Refusal::OtherKeys, "other keys"),
+    (Refusal::BrokenText(Break::UNNAMED), "broken text"),
 ];
 
 impl Refusal {
@@ -142,6 +147,7 @@ impl Refusal {
             Refusal::NotOnShow => 12,
             Refusal::NoSuchRound => 13,
             Refusal::OtherKeys => 14,
+            Refusal::BrokenText(_) => 15,
             Refusal::Other(number) => number,
         }
     }
@@ -154,6 +160,9 @@ impl fmt::Display for Refusal {
             Refusal::UnfitSheet(Fault::Unnamed) | Refusal::Altered(Change::Unnamed) => Ok(()),
             Refusal::UnfitSheet(fault) => write!(f, ": {fault}"),
             Refusal::Altered(change) => write!(f, ": {change}"),
+            Refusal::BrokenText(found) if found.kind != BreakKind::Unnamed => {
+                write!(f, ": {found}")
+            }
             _ => Ok(()),
         }
     }

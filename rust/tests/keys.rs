@@ -2,8 +2,8 @@
 //! stands among the refusals, and that older editions never give it.
 
 use captions::{
-    blank, clear, dated_read, first_fault, list, read, sheet_len, sheet_len_1, write, Change,
-    Fault, Refusal, FIELD, LAST_DAY,
+    blank, clear, dated_read, first_fault, list, read, sheet_len, sheet_len_1, write, Break,
+    BreakKind, Change, Fault, Refusal, FIELD, LAST_DAY,
 };
 
 const SLOTS: usize = 2;
@@ -272,10 +272,14 @@ const STRANGE_MARK: Way = (Refusal::OtherKeys, |call| {
     call.sheet[15] = call.sheet[15].wrapping_add(1)
 });
 const NO_SUCH_SLOT: Way = (Refusal::NoSuchSlot, |call| call.slot = SLOTS);
+const BROKEN_TEXT: Refusal = Refusal::BrokenText(Break {
+    at: 0,
+    kind: BreakKind::NoLetter,
+});
 
 #[test]
 fn the_order_of_a_write() {
-    let ways: [Way; 9] = [
+    let ways: [Way; 10] = [
         WRONG_KEY,
         TWIN_KEYS,
         UNFIT,
@@ -283,7 +287,8 @@ fn the_order_of_a_write() {
         STRANGE_KEYS,
         STRANGE_MARK,
         NO_SUCH_SLOT,
-        (Refusal::Overlong, |call| call.caption = vec![b'x'; 193]),
+        (Refusal::Overlong, |call| call.caption = vec![0xff; 193]),
+        (BROKEN_TEXT, |call| call.caption = vec![0xff; 192]),
         (Refusal::Worn, |call| call.sheet[4..8].fill(255)),
     ];
     first_of(&ways, Call::write);

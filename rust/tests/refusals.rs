@@ -5,7 +5,7 @@ use captions::{
     Refusal, FIELD, MARK,
 };
 
-const WORDS: [&str; 14] = [
+const WORDS: [&str; 15] = [
     "wrong key",
     "twin keys",
     "wrong span",
@@ -20,6 +20,7 @@ const WORDS: [&str; 14] = [
     "not on show",
     "no such round",
     "other keys",
+    "broken text",
 ];
 
 #[test]

@@ -57,6 +57,23 @@ impl Random {
         }
     }
 
+    /// A caption of a length: most often well-formed text, else any bytes.
+    fn caption(&mut self, length: usize) -> Vec<u8> {
+        if self.below(4) == 0 {
+            return self.bytes(length);
+        }
+        let mut caption = Vec::new();
+        while caption.len() < length {
+            let most = 0x11_0000 >> self.pick(&[0, 4, 9, 13]);
+            let letter = char::from_u32(self.below(most) as u32).unwrap_or('~');
+            match letter.len_utf8() <= length - caption.len() {
+                true => caption.extend(letter.to_string().bytes()),
+                false => caption.push(b'~'),
+            }
+        }
+        caption
+    }
+
     /// Bytes, most often 8 of them.
     fn block(&mut self) -> Vec<u8> {
         let length = self.pick(&[8, 8, 8, 8, 8, 0, 7, 9]);
@@ -66,7 +83,7 @@ impl Random {
 
 /// How often each answer was met, so that a test can see that it met them all.
 #[derive(Default)]
-struct Met([usize; 15]);
+struct Met([usize; 16]);
 
 impl Met {
     /// Compares an answer with the second program's.
@@ -291,9 +308,9 @@ fn sheets() {
     }
     let [one, two, three] = met;
     for older in [one, two] {
-        older.all_of(&[0, 1, 2, 3, 4, 5, 6, 7, 8, 9, 10]);
+        older.all_of(&[0, 1, 2, 3, 4, 5, 6, 7, 8, 9, 10, 15]);
     }
-    three.all_of(&[0, 1, 2, 3, 4, 5, 6, 7, 8, 9, 10, 14]);
+    three.all_of(&[0, 1, 2, 3, 4, 5, 6, 7, 8, 9, 10, 14, 15]);
 }
 
 /// A list of calls on a sheet of an edition.
@@ -312,7 +329,11 @@ fn list_of_calls(random: &mut Random, edition: Edition, met: &mut Met) {
             }
             1..=3 => {
                 let length = random.pick(&[0, 1, 8, 17, 191, 192, 192, 193]);
-                let caption = random.bytes(length);
+                let caption = random.caption(length);
+                assert_eq!(
+                    captions::broken_at(&caption),
+                    reference::breaks_at(&caption)
+                );
                 let answer = captions::write(&sealing, &checking, &mut sheet, slot, &caption);
                 met.compare_pointed(
                     answer.map(|()| 0),

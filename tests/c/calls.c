@@ -527,10 +527,18 @@ static void write_refusals(const struct edition *edition)
                   CAPTIONS_NO_SUCH_SLOT));
     CHECK(refused(write_as(sheet, 8, 0, overlong, sizeof overlong),
                   CAPTIONS_OVERLONG));
+    memset(overlong, 0xff, sizeof overlong);
+    CHECK(refused(write_as(sheet, 8, SLOTS, overlong, sizeof overlong),
+                  CAPTIONS_NO_SUCH_SLOT));
+    CHECK(refused(write_as(sheet, 8, 0, overlong, sizeof overlong),
+                  CAPTIONS_OVERLONG));
+    CHECK(refused(write_as(sheet, 8, 0, overlong, CAPTIONS_FIELD),
+                  CAPTIONS_BROKEN_TEXT));
     CHECK(same(sheet, before, size));
 
     memset(sheet + 4, 0xff, 4);
     memcpy(before, sheet, size);
+    CHECK(refused(write_as(sheet, 8, 0, overlong, 1), CAPTIONS_BROKEN_TEXT));
     CHECK(refused(write_as(sheet, 8, 0, "x", 1), CAPTIONS_WORN));
     CHECK(same(sheet, before, size));
     sheet[7] = 0xfe;
@@ -643,6 +651,150 @@ static void other_keys(const struct edition *edition)
         CHECK(strangers(edition, flipped, checking));
         flip(flipped, checking, bit);
         CHECK(strangers(edition, sealing, flipped));
+    }
+}
+
+/* ---- Broken text ---- */
+
+/* A text, and where it breaks; one that isn't broken has its length there. */
+struct text_case {
+    const char *text;
+    size_t length, at;
+};
+
+static const struct text_case broken_texts[] = {
+    {"\x80", 1, 0},
+    {"\xbf", 1, 0},
+    {"\xc0\x80", 2, 0},
+    {"\xc1\xbf", 2, 0},
+    {"\xc2", 1, 1},
+    {"\xdf\x7f", 2, 1},
+    {"\xdf\xc0", 2, 1},
+    {"\xe0\x80\x80", 3, 1},
+    {"\xe0\x9f\xbf", 3, 1},
+    {"\xe2\x82", 2, 2},
+    {"\xe2\x82.", 3, 2},
+    {"\xed\xa0\x80", 3, 1},
+    {"\xed\xbf\xbf", 3, 1},
+    {"\xed\xa0\x80\xed\xb0\x80", 6, 1},
+    {"\xf0\x80\x80\x80", 4, 1},
+    {"\xf0\x8f\xbf\xbf", 4, 1},
+    {"\xf0\x9d\x84", 3, 3},
+    {"\xf0\x9d\x84\xf0", 4, 3},
+    {"\xf4\x90\x80\x80", 4, 1},
+    {"\xf5\x80\x80\x80", 4, 0},
+    {"\xff", 1, 0},
+    {"Caf\xc3\xa9\xa9", 6, 5},
+    {"Caf\xe9", 4, 4},
+    {"Caf\xe9.", 5, 4},
+};
+static const struct text_case whole_texts[] = {
+    {"", 0, 0},
+    {"\0", 1, 1},
+    {"\x7f", 1, 1},
+    {"\xc2\x80", 2, 2},
+    {"\xdf\xbf", 2, 2},
+    {"\xe0\xa0\x80", 3, 3},
+    {"\xed\x9f\xbf", 3, 3},
+    {"\xee\x80\x80", 3, 3},
+    {"\xef\xbb\xbf", 3, 3},
+    {"\xef\xbf\xbf", 3, 3},
+    {"\xf0\x90\x80\x80", 4, 4},
+    {"\xf4\x8f\xbf\xbf", 4, 4},
+    {"Caf\xc3\xa9", 5, 5},
+};
+#define BROKEN_TEXTS (sizeof broken_texts / sizeof broken_texts[0])
+#define WHOLE_TEXTS (sizeof whole_texts / sizeof whole_texts[0])
+
+/* Behind so many bytes of letters: where it breaks, and what a write answers. */
+static void text_behind(const struct edition *edition,
+                        const struct text_case *c, size_t letters, int number)
+{
+    uint8_t sheet[SHEET], before[SHEET], text[CAPTIONS_FIELD];
+    memset(text, 'x', letters);
+    memcpy(text + letters, c->text, c->length);
+    make_sheet(edition, sheet);
+    memcpy(before, sheet, edition->size);
+    CHECK(captions_broken_at(text, letters + c->length) == letters + c->at);
+    CHECK(refused(write_as(sheet, 8, 1, text, letters + c->length), number));
+    CHECK(same(sheet, before, edition->size) == (number != 0));
+}
+
+/* From both sides of each edge, in texts of few bytes and of 192. */
+static void text_refusals(const struct edition *edition)
+{
+    size_t i;
+    for (i = 0; i < BROKEN_TEXTS; i++) {
+        const struct text_case *c = &broken_texts[i];
+        text_behind(edition, c, 0, CAPTIONS_BROKEN_TEXT);
+        text_behind(edition, c, 8, CAPTIONS_BROKEN_TEXT);
+        text_behind(edition, c, CAPTIONS_FIELD - c->length,
+                    CAPTIONS_BROKEN_TEXT);
+    }
+    for (i = 0; i < WHOLE_TEXTS; i++) {
+        const struct text_case *c = &whole_texts[i];
+        text_behind(edition, c, 0, CAPTIONS_ACCEPTED);
+        text_behind(edition, c, CAPTIONS_FIELD - c->length,
+                    CAPTIONS_ACCEPTED);
+    }
+}
+
+/* What captions_write stored before it tested texts, put together here by blocks:
+ * slot 1 of a sheet as make_sheet has it, written again under number 2. */
+static void store_old(const struct edition *edition, uint8_t *sheet,
+                      const struct text_case *c)
+{
+    uint8_t message[8 + CAPTIONS_FIELD] = {0, 0, 0, 2, 0, 1};
+    uint8_t plain_block[CAPTIONS_BLOCK] = {0, 0, 0, 2, 0, 1};
+    uint8_t sealed[CAPTIONS_BLOCK], *field = message + 8;
+    uint8_t *mark = sheet + edition->header + CAPTIONS_MARK;
+    size_t i, k;
+    make_sheet(edition, sheet);
+    if (edition->number != 1) {
+        plain_block[6] = SERIAL >> 8;
+        plain_block[7] = SERIAL & 0xff;
+    }
+    CHECK(accepted(captions_encrypt_block(sealing, 8, plain_block, 8, 0,
+                                          sealed, 8)));
+    memcpy(field, c->text, c->length);
+    for (i = 0; i < CAPTIONS_FIELD; i += CAPTIONS_BLOCK) {
+        for (k = 0; k < CAPTIONS_BLOCK; k++)
+            plain_block[k] = field[i + k] ^ sealed[k];
+        CHECK(accepted(captions_encrypt_block(sealing, 8, plain_block, 8, 0,
+                                              sealed, 8)));
+        memcpy(field + i, sealed, CAPTIONS_BLOCK);
+    }
+    message[7] = (uint8_t)c->length;
+    memcpy(mark, message, 4);
+    memcpy(mark + 4, message + 6, 2);
+    CHECK(accepted(captions_cmac(checking, 8, message, sizeof message,
+                                 mark + 8, 8)));
+    memcpy(sheet + field_place(edition), field, CAPTIONS_FIELD);
+    sheet[7] = 2;
+}
+
+/* Reads, listings and clears take it as it is. */
+static void old_texts(const struct edition *edition)
+{
+    static const char listing[] = "slots 3 key 64 last 2\n0 blank\n"
+                                  "1 written 2 1\n2 blank\n";
+    uint8_t sheet[SHEET], window[CAPTIONS_FIELD], out[CAPTIONS_LISTING];
+    size_t i;
+    for (i = 0; i < BROKEN_TEXTS; i++) {
+        const struct text_case *c = &broken_texts[i];
+        store_old(edition, sheet, c);
+        memset(window, UNTOUCHED, sizeof window);
+        CHECK(is(read_as(sheet, 8, 1, window), 0, (int)c->length));
+        CHECK(memcmp(window, c->text, c->length) == 0);
+        CHECK(all(window + c->length, sizeof window - c->length, 0));
+        if (c->length == 1) {
+            CHECK(captions_list(sheet, edition->size, out, sizeof out) ==
+                  sizeof listing - 1);
+            CHECK(memcmp(out, listing, sizeof listing - 1) == 0);
+        }
+        CHECK(accepted(write_as(sheet, 8, 0, "Vase", 4)));
+        CHECK(is(read_as(sheet, 8, 1, window), 0, (int)c->length));
+        CHECK(accepted(captions_clear(sheet, edition->size, 1)));
     }
 }
 
@@ -1133,7 +1285,7 @@ static void rule_words(void)
 static void words(void)
 {
     static const char *const word[] = CAPTIONS_WORDS;
-    CHECK(sizeof word / sizeof word[0] == CAPTIONS_OTHER_KEYS + 1);
+    CHECK(sizeof word / sizeof word[0] == CAPTIONS_BROKEN_TEXT + 1);
     CHECK(strcmp(word[CAPTIONS_WRONG_KEY], "wrong key") == 0);
     CHECK(strcmp(word[CAPTIONS_UNFIT_SHEET], "unfit sheet") == 0);
     CHECK(strcmp(word[CAPTIONS_WORN], "worn") == 0);
@@ -1142,6 +1294,8 @@ static void words(void)
     CHECK(strcmp(word[CAPTIONS_NOT_ON_SHOW], "not on show") == 0);
     CHECK(strcmp(word[CAPTIONS_NO_SUCH_ROUND], "no such round") == 0);
     CHECK(strcmp(word[CAPTIONS_OTHER_KEYS], "other keys") == 0);
+    CHECK(CAPTIONS_BROKEN_TEXT == 15);
+    CHECK(strcmp(word[CAPTIONS_BROKEN_TEXT], "broken text") == 0);
     CHECK(sizeof(captions_answer) == 4);
     CHECK(offsetof(captions_answer, length) == 2);
     CHECK(sizeof(captions_pointed) == 8);
@@ -1167,6 +1321,8 @@ static void sheets_of(const struct edition *edition)
     clear_refusals(edition);
     read_refusals(edition);
     other_keys(edition);
+    text_refusals(edition);
+    old_texts(edition);
     dated_reads(edition);
     dated_read_refusals(edition);
     edition_rules(edition);

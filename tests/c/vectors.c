@@ -1,6 +1,7 @@
-/* Prints what `reference vectors blocks`, `cmac`, `bench`, `panel`, `marks` or
- * `sheet` prints, each line made by the library's own calls, so that the two
- * texts can be compared. */
+/* Prints what `reference vectors blocks`, `cmac`, `bench`, `panel`, `marks`,
+ * `sheet` or `texts` prints, each line made by the library's own calls, so that
+ * the two can be compared. The texts themselves it takes from standard input, the
+ * lines of `texts`. */
 #include "captions.h"
 
 #include <stdio.h>
@@ -28,6 +29,14 @@ static void make_key(uint8_t *key, size_t words, size_t number)
 static void make_text(uint8_t *text, size_t length, size_t number)
 {
     ramp(text, length, 53, 31 * number + 7);
+}
+
+/* A caption of characters from space to tilde. */
+static void make_caption(uint8_t *caption, size_t length, size_t number)
+{
+    size_t i;
+    for (i = 0; i < length; i++)
+        caption[i] = (uint8_t)(32 + (53 * i + 31 * number + 7) % 95);
 }
 
 static void print_hex(const uint8_t *bytes, size_t length, const char *after)
@@ -244,8 +253,8 @@ static void list_of_calls(size_t words, const char *origin,
     uint8_t seventeen[17], longest[193];
     struct keys keys;
     make_keys(&keys, words);
-    ramp(seventeen, sizeof seventeen, 53, 7);
-    ramp(longest, sizeof longest, 31, 5);
+    make_caption(seventeen, sizeof seventeen, 0);
+    make_caption(longest, sizeof longest, 1);
 
     print_call(origin, answer, &keys, sheet);
     print_write(&keys, sheet, 0, "", 0);
@@ -295,6 +304,58 @@ static void sheets(void)
     }
 }
 
+/* ---- Texts ---- */
+
+#define TEXT 200 /* at least the bytes of any text of the list */
+
+/* The bytes of hex digits, or of a dash, at the head of a line. */
+static size_t text_of(const char *line, uint8_t *text)
+{
+    size_t digits = strspn(line, "0123456789abcdef"), i;
+    unsigned byte;
+    for (i = 0; i < digits / 2 && i < TEXT; i++)
+        if (sscanf(line + 2 * i, "%2x", &byte) == 1)
+            text[i] = (uint8_t)byte;
+    return i;
+}
+
+/* Whether a text is well formed: a write takes it. One that is too long for a
+ * write is if a blank can stand behind it, which no letter that isn't whole
+ * allows. */
+static int is_whole(uint8_t *text, size_t length)
+{
+    uint8_t sheet[CAPTIONS_SHEET(1)];
+    struct keys keys;
+    captions_pointed answer;
+    int whole;
+    text[length] = ' ';
+    whole = captions_broken_at(text, length + 1) == length + 1;
+    make_keys(&keys, 4);
+    blank(sheet, 1, 4, 1, &keys);
+    answer = captions_write(keys.sealing, keys.length, keys.checking,
+                            keys.length, sheet, sizeof sheet, 0, text, length);
+    if (answer.number != (length > CAPTIONS_FIELD ? CAPTIONS_OVERLONG
+                          : whole                 ? CAPTIONS_ACCEPTED
+                                                  : CAPTIONS_BROKEN_TEXT))
+        fputs("a write answers otherwise: ", stdout);
+    return whole;
+}
+
+static void texts(void)
+{
+    char line[2 * TEXT + 16];
+    while (fgets(line, sizeof line, stdin) != NULL) {
+        uint8_t text[TEXT + 1];
+        size_t length = text_of(line, text);
+        int whole = is_whole(text, length);
+        if (length == 0)
+            fputs("-", stdout);
+        print_hex(text, length, " ");
+        printf("%d %lu\n", whole,
+               (unsigned long)captions_broken_at(text, length));
+    }
+}
+
 int main(int count, char **words)
 {
     const char *kind = count == 2 ? words[1] : "";
@@ -310,8 +371,11 @@ int main(int count, char **words)
         marks();
     } else if (strcmp(kind, "sheet") == 0) {
         sheets();
+    } else if (strcmp(kind, "texts") == 0) {
+        texts();
     } else {
-        fputs("usage: vectors blocks|cmac|bench|panel|marks|sheet\n", stderr);
+        fputs("usage: vectors blocks|cmac|bench|panel|marks|sheet|texts\n",
+              stderr);
         return 64;
     }
     return fflush(stdout) != 0;

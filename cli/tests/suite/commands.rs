@@ -42,10 +42,10 @@ fn write_stores_what_the_second_program_stores() {
         let file = scratch.sheet("sheet", 3, key_len / 2);
         let keys = scratch.keys(key_len);
         let mut sheet = blank_sheet(3, key_len / 2);
-        let every_byte: Vec<u8> = (0..192).map(|i| (i * 37 + 200) as u8).collect();
+        let longest: String = ('\u{80}'..'\u{e0}').collect();
         let captions: [(usize, &[u8]); 5] = [
             (0, b"Vase, 1752"),
-            (2, &every_byte),
+            (2, longest.as_bytes()),
             (0, b"Vase, 1751\n"),
             (1, b""),
             (2, b"\0\0\0"),
@@ -116,8 +116,13 @@ fn read_prints_the_bytes_and_no_line_feed() {
     let scratch = Scratch::new();
     let (file, keys) = (scratch.sheet("sheet", 1, 4), scratch.keys(8));
     for length in [0, 1, 8, 191, 192] {
-        let caption: Vec<u8> = (0..length).map(|i| (255 - i) as u8).collect();
+        let caption: Vec<u8> = (0..length).map(|i| 127 - i as u8 % 128).collect();
         write(&file, 0, &keys, &caption);
+        run(&words!["read", file, "0", keys]).printed(&caption);
+        // Of a caption from before, any bytes.
+        let caption: Vec<u8> = (0..length).map(|i| 255 - i as u8).collect();
+        let sheet = fs::read(&file).unwrap();
+        fs::write(&file, stored(&sheet, 8, 0, &caption)).unwrap();
         run(&words!["read", file, "0", keys]).printed(&caption);
     }
 }

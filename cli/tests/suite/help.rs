@@ -49,8 +49,8 @@ fn help_as_people_ask_for_it() {
     run(&["help", "open"]).failed(64, "no command open");
     run(&["help", "list", "read"]).failed(64, "help takes one command");
     run(&["list", "--", "--help"]).failed(66, "--help: No such file");
-    assert_eq!(printed(&["--version"]), "captions 0.6.1\n");
-    assert_eq!(printed(&["-V"]), "captions 0.6.1\n");
+    assert_eq!(printed(&["--version"]), "captions 0.7.0\n");
+    assert_eq!(printed(&["-V"]), "captions 0.7.0\n");
 }
 
 /// A section's items: terms, and texts with their lines joined.
@@ -121,13 +121,13 @@ fn without_a_word_the_commands_are_named() {
 fn help_has_every_status_and_what_a_sheet_cannot_tell() {
     let all = printed(&["help"]);
     let statuses = items(&all, "Exit status");
-    for number in 1..=14 {
+    for number in 1..=15 {
         let refusal = captions::Refusal::of_number(number).unwrap();
         let (term, text) = &statuses[usize::from(number)];
         assert_eq!(*term, number.to_string());
         assert!(text.starts_with(&format!("{refusal}: ")));
     }
-    let others: Vec<&str> = statuses[15..]
+    let others: Vec<&str> = statuses[16..]
         .iter()
         .map(|(term, _)| term.as_str())
         .collect();
@@ -155,6 +155,13 @@ fn help_has_every_status_and_what_a_sheet_cannot_tell() {
         let mut statuses = items(&help, "Exit status").into_iter();
         assert!(statuses.any(|(term, _)| term == "14"), "{name}");
     }
+    for name in ["write", "import"] {
+        let help = printed(&["help", name]);
+        let mut statuses = items(&help, "Exit status").into_iter();
+        assert!(statuses.any(|(term, _)| term == "15"), "{name}");
+    }
+    let write = printed(&["help", "write"]);
+    assert!(write.contains("| wc -c\n") && write.contains("(exit status 15)"));
 }
 
 /// What the help says is so: a sheet put back is sound.

@@ -24,6 +24,7 @@ mod support;
 mod table;
 mod terminal;
 mod terms;
+mod text;
 mod together;
 mod usage;
 mod waiting;

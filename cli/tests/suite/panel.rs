@@ -142,7 +142,7 @@ fn refusals() {
     }
     for length in [8, 12, 16] {
         let key = key_file(&scratch, length);
-        let words = "overlong: 65537 bytes, where a panel has at most 65536";
+        let words = "overlong: 65537 bytes, where a panel has at most 65536: 1 too many";
         run_with(&words!["panel", key, "7"], &panel).refused(7, words);
         run_with(&words!["panel", key, "7", "--output", out], &panel).refused(7, words);
         fs::write(&out, TEXT).unwrap();

@@ -47,15 +47,18 @@ fn a_refusal_says_what_was_given_and_what_is_allowed() {
         .refused(6, "no such slot: 3, where the term sheet has 0 to 2");
 
     let write = words!["write", sheet, "0", keys];
-    for (length, words) in [(193, "193 bytes"), (1 << 20, "1048576 bytes")] {
-        let words = format!("overlong: {words}, where a caption has at most 192");
+    for (length, over) in [(193, "1"), (200, "8"), (1 << 20, "1048384")] {
+        let words =
+            format!("overlong: {length} bytes, where a caption has at most 192: {over} too many");
         run_with(&write, &vec![b'x'; length]).refused(7, &words);
     }
     let endless = [&write[..], &words!["--file", "/dev/zero"]].concat();
     let words = "overlong: more than 1048576 bytes, where a caption has at most 192";
     run(&endless).refused(7, words);
-    run(&[&write[..], &words!["--text", "é".repeat(97)]].concat())
-        .refused(7, "overlong: 194 bytes, where a caption has at most 192");
+    run(&[&write[..], &words!["--text", "é".repeat(97)]].concat()).refused(
+        7,
+        "overlong: 194 bytes, where a caption has at most 192: 2 too many",
+    );
 
     let bits = "wrong key: BITS is 64, 96 or 128, not 100";
     run(&words!["blank", new, "4", "100", "1", keys]).refused(1, bits);

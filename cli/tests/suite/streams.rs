@@ -193,7 +193,7 @@ fn a_caption_from_a_file() {
     let scratch = Scratch::new();
     let (file, keys) = sheet(&scratch);
     let name = scratch.join("caption");
-    for caption in [&b"Clock\n"[..], b"\0\xff", &[b'x'; 192]] {
+    for caption in [&b"Clock\n"[..], b"\0\xc3\xbf", &[b'x'; 192]] {
         fs::write(&name, caption).unwrap();
         run_with(
             &words!["write", file, "1", keys, "--file", name],

@@ -158,6 +158,19 @@ pub fn written(sheet: &[u8], key_len: usize, slot: usize, caption: &[u8]) -> Vec
     sheet
 }
 
+/// A sheet as a write left it before captions had to be UTF-8: any bytes, stored by
+/// the second program.
+pub fn stored(sheet: &[u8], key_len: usize, slot: usize, caption: &[u8]) -> Vec<u8> {
+    let mut sheet = sheet.to_vec();
+    let mut field = [0; 192];
+    field[..caption.len()].copy_from_slice(caption);
+    let (sealing, checking) = (&SEALING[..key_len], &CHECKING[..key_len]);
+    let length = caption.len() as u16;
+    let answer = reference::store_field(sealing, checking, &mut sheet, slot, length, &field);
+    assert_eq!(answer.number, 0);
+    sheet
+}
+
 /// A sheet as a clear by the second program leaves it.
 pub fn cleared(sheet: &[u8], slot: usize) -> Vec<u8> {
     let mut sheet = sheet.to_vec();
@@ -225,7 +238,7 @@ impl Run {
         let word = words.split(": ").next().unwrap();
         let last = format!("{number} {word}\n");
         match (number, word == words) {
-            (1 | 3 | 4 | 5 | 6 | 7 | 10 | 13, true) => {
+            (1 | 3 | 4 | 5 | 6 | 7 | 10 | 13 | 15, true) => {
                 let rule = self.stderr.strip_suffix(&last);
                 let rule = rule.and_then(|rule| rule.strip_prefix("captions: "));
                 let rule = rule.and_then(|rule| rule.strip_prefix(word));

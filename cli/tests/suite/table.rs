@@ -102,7 +102,7 @@ fn a_sheet_as_a_table() {
 
 #[test]
 fn texts_of_captions() {
-    let cases: [(&[u8], &str); 34] = [
+    let cases: [(&[u8], &str); 33] = [
         (b"Vase", "Vase"),
         ("Émile Gallet, Genève".as_bytes(), "Émile Gallet, Genève"),
         (b"Vase \"Cranes\"", "Vase \"Cranes\""),
@@ -113,7 +113,6 @@ fn texts_of_captions() {
         (b" ", "\\x20"),
         (b" Vase", "\\& Vase"),
         (b"\0\x1b[31m\x7f", "\\x00\\x1b[31m\\x7f"),
-        (b"a\xffb\xc3", "a\\xffb\\xc3"),
         ("\u{85}".as_bytes(), "\\xc2\\x85"),
         (
             "a\u{feff}\u{202e}\u{2028}".as_bytes(),
@@ -164,25 +163,23 @@ fn texts_of_captions() {
     }
 }
 
-/// A caption of any bytes, of the kinds that are hard on a table.
+/// A caption of any letters, of the kinds that are hard on a table.
 fn any_caption(random: &mut Random) -> Vec<u8> {
     let length = random.below(193) as usize;
     let kind = random.below(4);
-    let mut caption = Vec::new();
-    while caption.len() < length {
-        match kind {
-            0 => caption.push(random.next() as u8),
-            1 => caption.push(b"\\&tnrx\"\t\n\r 0=-+@',;"[random.below(19) as usize]),
-            2 => caption.push(b' ' + random.below(95) as u8),
-            _ => {
-                let number = random.below(0x11_0000) as u32;
-                let character = char::from_u32(number).unwrap_or('\u{fffd}');
-                caption.extend(character.encode_utf8(&mut [0; 4]).bytes());
-            }
+    let mut caption = String::new();
+    loop {
+        let letter = match kind {
+            0 => char::from(random.next() as u8),
+            1 => char::from(b"\\&tnrx\"\t\n\r 0=-+@',;"[random.below(19) as usize]),
+            2 => char::from(b' ' + random.below(95) as u8),
+            _ => char::from_u32(random.below(0x11_0000) as u32).unwrap_or('\u{fffd}'),
+        };
+        if caption.len() + letter.len_utf8() > length {
+            return caption.into_bytes();
         }
+        caption.push(letter);
     }
-    caption.truncate(length);
-    caption
 }
 
 /// What spreadsheets do when they save a table.
@@ -215,9 +212,9 @@ fn as_a_spreadsheet_saves_it(table: &str, quoted: bool, random: &mut Random) -> 
     }
 }
 
-/// Any bytes go to the table and come back, also by way of a spreadsheet.
+/// Any letters go to the table and come back, also by way of a spreadsheet.
 #[test]
-fn any_bytes_survive_the_round_trip() {
+fn any_letters_survive_the_round_trip() {
     let mut random = Random(1690);
     let mut captions = 0;
     for round in 0..12 {
@@ -261,7 +258,7 @@ fn any_bytes_survive_the_round_trip() {
             assert_same_captions(&copy.sheet(), &sheet);
         }
     }
-    println!("{captions} captions of any bytes through 24 spreadsheets");
+    println!("{captions} captions of any letters through 24 spreadsheets");
 }
 
 /// By the second program's readings.
@@ -388,7 +385,7 @@ fn a_refused_line_is_named_and_nothing_is_written() {
     place.refuses(
         table(&overlong),
         7,
-        "captions: standard input: line 4: slot 2: overlong: 193 bytes, where a caption has at most 192\n7 overlong\n",
+        "captions: standard input: line 4: slot 2: overlong: 193 bytes, where a caption has at most 192: 1 too many\n7 overlong\n",
     );
     place
         .import(table(&format!("2\t{}", "é".repeat(96))))
@@ -567,7 +564,7 @@ fn every_bad_line_is_named_in_one_run() {
     let lines = [
         "line 3: the slot isn't a decimal number",
         "line 4: slot 3: no such slot: 3, where the sheet has 0 to 2",
-        "line 5: slot 2: overlong: 200 bytes, where a caption has at most 192",
+        "line 5: slot 2: overlong: 200 bytes, where a caption has at most 192: 8 too many",
         "line 6: slot 1: altered: the check differs",
         "line 7: a backslash that begins none of \\t \\n \\r \\\\ \\& \\x00; \\\\ is a backslash",
         "line 8: text after a closing quotation mark",
@@ -655,7 +652,7 @@ fn any_bytes_as_a_table() {
         fs::write(&place.file, three_slots()).unwrap();
         let run = place.import_with(&["--clear"], &table);
         assert!(
-            [0, 6, 65].contains(&run.status),
+            [0, 6, 15, 65].contains(&run.status),
             "{} {}",
             run.status,
             run.stderr

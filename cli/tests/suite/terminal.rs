@@ -152,6 +152,46 @@ fn a_hint_at_other_keys() {
     }
 }
 
+/// A text of which no letter beyond ASCII is whole may be another character set's.
+#[test]
+fn a_hint_at_another_character_set() {
+    let scratch = Scratch::new();
+    let (file, keys) = (scratch.sheet("sheet", 1, 4), scratch.keys(8));
+    let hint = "captions: the text may be in another character set; \
+                iconv -f LATIN1 -t UTF-8 makes UTF-8 of Latin-1";
+    let cases: [(&[u8], &str, bool); 5] = [
+        (
+            b"Gen\xe8ve",
+            "byte 4: the letter before it is cut off",
+            true,
+        ),
+        (b"Mus\xe9", "byte 4: a letter is cut off at the end", true),
+        (
+            b"Gen\xe8ve, Mus\xe9e",
+            "byte 4: the letter before it is cut off",
+            true,
+        ),
+        (
+            b"Gen\xc3\xa8ve, Mus\xe9e",
+            "byte 13: the letter before it is cut off",
+            false,
+        ),
+        (b"\xe2\x82", "byte 2: a letter is cut off at the end", false),
+    ];
+    for (text, words, is_hinted) in cases {
+        let text = OsString::from(OsStr::from_bytes(text));
+        let write = words!["write", file, "0", keys, "--text", text];
+        let (status, shown) = at_a_terminal(&write, b"");
+        let reason = format!("captions: broken text: {words}");
+        let mut lines = vec![reason.as_str(), "15 broken text"];
+        if is_hinted {
+            lines.insert(0, hint);
+        }
+        assert_eq!((status, shown.lines().collect()), (15, lines));
+        run(&write).refused(15, &format!("broken text: {words}"));
+    }
+}
+
 #[test]
 fn a_table_typed_at_a_terminal() {
     let scratch = Scratch::new();

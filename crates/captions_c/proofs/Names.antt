@@ -268,5 +268,5 @@ names =
       lists-not = λ r after h. listed-is r after _ (h ∙ exhibits .no-list);
       finds-cut = λ r h. h ∙ text-laws .texts .cut-off-2 .place;
       finds-overlong = λ r h. h ∙ text-laws .texts .overlong-3 .place;
-      finds-none = λ r h. h ∙ text-laws .texts .example-1 .unbroken;
+      finds-none = λ r h. h ∙ text-laws .texts .example-1 .place;
     }

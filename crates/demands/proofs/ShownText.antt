@@ -1,5 +1,5 @@
 -- A read shows well-formed text alone: a page of the model holds no other.
-use Prim.Native.Nat.{ℕ, _-_, _≤_, _<_}
+use Prim.Native.Nat.{ℕ, _+_, _-_, _≤_, _<_}
 use mathlib.Core.Path.{_≡_, refl, sym, ap, _∙_, subst}
 use mathlib.Core.Bool.{Bool, true, false}
 use mathlib.Core.List.{List, [], _∷_, _++_}
@@ -7,34 +7,37 @@ use native.Mathlib.Decide.{ℕ-discrete}
 use native.Mathlib.Omega.{arith}
 use lib.ListN.{length, take}
 use lib.Seq.{take-append-le, take-length}
-use Rattle.octets.specs.Bytes.{zeros}
+use Rattle.octets.specs.Bytes.{Bytes, zeros}
 use Rattle.text.specs.Grammar.{UTF8}
-use Rattle.layout.specs.Layout.{slots}
+use Rattle.layout.specs.Layout.{editionOf, slots, keyClass, lastWrite, fit}
 use Rattle.captions.specs.Answers.{Outcome}
-use Rattle.captions.specs.Captions.{Keys}
+use Rattle.captions.specs.Captions.{Keys, Ciphers, written}
 use Rattle.captions.specs.Calls.{reading}
 use Rattle.captions.specs.Runs.{finally}
 use Rattle.captions.specs.Model.{Page, blank, holds, page}
 use Rattle.captions.specs.Turns.{Turn, ownCalls, EachStranger}
-use Rattle.captions.specs.Claim.{Captions}
-use Rattle.captions.proofs.Store.{slots-kept}
+use Rattle.captions.specs.Claim.{Captions, shown}
+use Rattle.captions.proofs.Store.{slots-kept, keyClass-kept}
+use Rattle.captions.proofs.Editions.{editions-regular, edition-kept}
+use Rattle.captions.proofs.Effect.{Effect, write-effect}
 use Rattle.captions.proofs.Texts.{Text, held-text, page-text}
 use Rattle.dated.specs.Calls.{DatedOutcome, dating}
 use Rattle.dated.proofs.Laws.{dated-reads}
-use Rattle.demands.specs.Ciphers.{readingBy}
+use Rattle.demands.specs.Ciphers.{byPaths, readingBy}
 use Rattle.demands.specs.Steps.{Gives, turnStep, Stranger, Serves, BlankSheet}
 use Rattle.demands.specs.Demand1.{NoneApplies}
 use Rattle.demands.specs.Demand3.{modelAfter}
 use Rattle.demands.specs.ShownText.{ShowsText, ShownText}
-use Rattle.demands.proofs.Ciphers.{code-reads}
+use Rattle.demands.proofs.Ciphers.{same-paths, code-reads}
+use Rattle.demands.proofs.Served.{served-keys, served-class, served-fits, served-sound}
 use Rattle.demands.proofs.Demand1.{demand1}
-use Rattle.demands.proofs.Demand3.{follows, second-half}
+use Rattle.demands.proofs.Demand3.{shows-caption, follows, second-half}
 
 -- the caption that a window shows, and zeros behind it
 take-caption : (c z : List ℕ) → take (length c) (c ++ z) ≡ c
 take-caption c z = take-append-le (length c) c z (omega arith) ∙ take-length c
 
--- a page that is no text but a caption
+-- of a page that is blank or holds text
 module _ (o : Outcome) (x : Page) (t : Text x) (is-blank : x ≡ blank → Gives o 9 0 (zeros 192)) (is-caption : (c : List ℕ) → x ≡ holds c → Gives o 0 (length c) (c ++ zeros (192 - length c))) where
   shows-text : ShowsText o
   shows-text h = go x refl t
@@ -80,10 +83,33 @@ module _ (p : ℕ) (k : Keys) (s : List ℕ) (turns : List Turn) (serves : Serve
       go true e f = absurd (omega (arith, f refl, h))
       go false e f = e
 
+-- what a write stores is read, whatever its bytes
+module _ (p p′ q : ℕ) (k : Keys) (s : List ℕ) (i : ℕ) (c window : List ℕ) (serves : Serves k s) (bytes : Bytes s) (fits : fit s ≡ true) (slot : i < slots s)
+    (left : lastWrite s < 4294967295) (caption : Bytes c) (short : length c ≤ 192) (l : length window ≡ 192) where
+  x : Ciphers
+  x = byPaths (keyClass s) p p k
+
+  s′ : List ℕ
+  s′ = written x (editionOf s) s i c
+
+  effect : Effect (editionOf s) x k i (lastWrite s + 1) (holds c) s s′
+  unfolding x s′
+  effect = write-effect (editionOf s) (editions-regular s) x k s (served-fits p p k s serves bytes fits) (served-sound p p k s serves fits) i c slot short caption left
+
+  old-shows : readingBy p′ q k s′ i window ≡ shown (holds c)
+  unfolding readingBy x
+  old-shows =
+      rw (← keyClass-kept (effect .header), same-paths k s (served-keys p p k s serves) (served-class p p k s serves) p′ q p p, ← edition-kept s s′ (effect .header)) (effect .at window l)
+
+  old-text : Gives (readingBy p′ q k (written (byPaths (keyClass s) p p k) (editionOf s) s i c) i window) 0 (length c) (c ++ zeros (192 - length c))
+  unfolding x s′
+  old-text = shows-caption old-shows c refl
+
 pub shown-text : ShownText
 unfolding after
 shown-text =
     record {
       read = λ p p′ q k s turns serves blanked captions each. read-text p k s turns serves blanked captions each p′ q;
       dated-read = λ p k s turns serves blanked captions each. dated-text p k s turns serves blanked captions each;
+      old = old-text;
     }

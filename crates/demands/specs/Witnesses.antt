@@ -20,7 +20,7 @@ use Rattle.demands.specs.Premises.{ByBlanking}
 abbrev pub says : ℕ → Reply
 says n = record { number = n; len = 0 }
 
--- ---- the model: seven calls on two pages, and two on a page that nears its last write
+-- ---- the model: seven calls on two pages, two on a page that nears its last write, and four on a worn one
 
 abbrev pub sevenCalls : List Call
 sevenCalls =
@@ -38,7 +38,7 @@ pub record ModelRun : Type 0 where
   pub second : page (finally modelStep sevenCalls (newModel 2)) 1 ≡ blank
   pub count : (finally modelStep sevenCalls (newModel 2)) .count ≡ 3
   pub worn : replies modelStep (writes 0 [] ∷ writes 0 [] ∷ []) (record { pages = blank ∷ []; count = 4294967294 }) ≡ says 0 ∷ says 8 ∷ []
-  -- on a page that is worn: a letter that is cut off, among 193 bytes, in a slot that there isn't, and a letter that is whole
+  -- on the worn one: a letter that is cut off, 193 first bytes, the letter in a slot that there isn't, and a letter that is whole
   pub broken : finally modelStep brokenCalls wornModel ≡ wornModel
   pub broken-answers : replies modelStep brokenCalls wornModel ≡ says 15 ∷ says 7 ∷ says 6 ∷ says 8 ∷ []
 
@@ -60,7 +60,7 @@ sevenTurns =
     ∷ stranger (pair (zeros 7) (replicate 7 1)) 0 (2 ∷ [])
     ∷ stranger (pair (zeros 8) (zeros 8)) 0 (3 ∷ [])
     ∷ stranger (pair (zeros 12) (replicate 12 1)) 0 (4 ∷ [])
-    ∷ stranger (pair (replicate 8 1) (zeros 8)) 256 (zeros 193)
+    ∷ stranger (pair (replicate 8 1) (zeros 8)) 256 (replicate 193 0xC3)
     ∷ own (clears 1)
     ∷ own (writes 1 (5 ∷ []))
     ∷ []

@@ -124,6 +124,10 @@ broken-worn : writing keys wornOne 0 (0xC3 ∷ []) ≡ plain 15 0 wornOne
 unfolding forms inside after some meets wellFormed writing writingWith writeTests captionTests decided wrongKeys otherClass otherKeys sheetKeyLength keyBytes same keyTests classTests sheetTests number zeros be allZero allBelow slots keyClass editionByte lastWrite rule1 mcryptonClass editionOf sheetSize markAt fieldAt slotCount mark field markNumber markLength writtenMark blankSlot fitSlot fitIn outcome answerNumber answerLength answerPoint
 broken-worn = refl
 
+whole-worn : writing keys wornOne 0 (0xC3 ∷ 0xA9 ∷ 0xE2 ∷ 0x89 ∷ 0xA2 ∷ 0xF0 ∷ 0xA3 ∷ 0x8E ∷ 0xB4 ∷ []) ≡ plain 8 0 wornOne
+unfolding forms inside after some meets wellFormed writing writingWith writeTests captionTests decided wrongKeys otherClass otherKeys sheetKeyLength keyBytes same keyTests classTests sheetTests number zeros be allZero allBelow slots keyClass editionByte lastWrite rule1 mcryptonClass editionOf sheetSize markAt fieldAt slotCount mark field markNumber markLength writtenMark blankSlot fitSlot fitIn outcome answerNumber answerLength answerPoint
+whole-worn = refl
+
 cleared-whole : clearing writtenOne 0 ≡ plain 0 0 clearedOne
 unfolding clearing clearingWith clearTests cleared storeSlot put decided number zeros be allZero allBelow slots keyClass editionByte lastWrite rule1 mcryptonClass editionOf sheetSize markAt fieldAt slotCount mark field markNumber markLength writtenMark blankSlot fitSlot fitIn outcome answerNumber answerLength answerPoint
 cleared-whole = refl
@@ -223,6 +227,7 @@ exhibits =
       broken-nowhere = broken-nowhere;
       broken-long = broken-long;
       broken-worn = broken-worn;
+      whole-worn = whole-worn;
       last-written = last-written;
       worn = worn-whole;
       short = short-sheet;

@@ -33,11 +33,13 @@ pub record Exhibits : Type 0 where
   -- a write, and a caption of 193 bytes
   pub written : writing keys blankOne 0 abc ≡ record { number = 0; len = 0; points = record { rule = 0; slot = 0; place = 0 }; bytes = writtenOne }
   pub not-written : writing keys blankOne 0 (zeros 193) ≡ record { number = 7; len = 0; points = record { rule = 0; slot = 0; place = 0 }; bytes = blankOne }
-  -- a letter that is cut off, in a slot and in one that there isn't, among 193 bytes, and on a worn sheet
+  -- a letter that is cut off, in a slot, in one that there isn't and on a worn sheet; 193 first bytes; and letters of two, three and four bytes, which only a worn sheet refuses
   pub broken : writing keys blankOne 0 (0xC3 ∷ []) ≡ record { number = 15; len = 0; points = record { rule = 0; slot = 0; place = 0 }; bytes = blankOne }
   pub broken-nowhere : writing keys blankOne 1 (0xC3 ∷ []) ≡ record { number = 6; len = 0; points = record { rule = 0; slot = 0; place = 0 }; bytes = blankOne }
   pub broken-long : writing keys blankOne 0 (replicate 193 0xC3) ≡ record { number = 7; len = 0; points = record { rule = 0; slot = 0; place = 0 }; bytes = blankOne }
   pub broken-worn : writing keys wornOne 0 (0xC3 ∷ []) ≡ record { number = 15; len = 0; points = record { rule = 0; slot = 0; place = 0 }; bytes = wornOne }
+  pub whole-worn : writing keys wornOne 0 (0xC3 ∷ 0xA9 ∷ 0xE2 ∷ 0x89 ∷ 0xA2 ∷ 0xF0 ∷ 0xA3 ∷ 0x8E ∷ 0xB4 ∷ [])
+      ≡ record { number = 8; len = 0; points = record { rule = 0; slot = 0; place = 0 }; bytes = wornOne }
   -- the last write, and the next
   pub last-written : writing keys nearlyWorn 0 abc ≡ record { number = 0; len = 0; points = record { rule = 0; slot = 0; place = 0 }; bytes = wornOne }
   pub worn : writing keys wornOne 0 abc ≡ record { number = 8; len = 0; points = record { rule = 0; slot = 0; place = 0 }; bytes = wornOne }

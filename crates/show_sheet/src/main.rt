@@ -33,17 +33,43 @@ fn write_with(sealing: &[u8], other: &[u8], checking: &[u8], sheet: &mut [u8]) {
     line(b"write ", a, checking, sheet);
 }
 
-// Captions by a rule: byte i of caption s is 32 + (53 * i + 31 * s + 7) % 95. These are the first bytes of caption 0.
-fn write_short(sealing: &[u8], checking: &[u8], sheet: &mut [u8]) {
-    write(sealing, checking, sheet, 1, b"'\\2g=rH}S)^4i?tJ ");
+// Byte i becomes 32 + (53 * i + first) % 95: of the caption with number s, where first is 31 * s + 7.
+fn spell(caption: &mut [u8], first: usize) {
+    let mut x = first % 95;
+    let mut i = 0;
+    while i < caption.len() {
+        caption[i] = (32 + x) as u8;
+        x = (x + 53) % 95;
+        i += 1;
+    }
 }
 
-// Writes the first n bytes of caption 1.
-fn write_long(sealing: &[u8], checking: &[u8], sheet: &mut [u8], n: usize)
-    requires { ⌜ n ≤ 193 ⌝ }
-{
-    let caption = b"F{Q'\\2g=rH}S)^4i?tJ U+`6kAvL\"W-b8mCxN$Y/d:oEzP&[1f<qG|R(]3h>sI~T*_5j@uK!V,a7lBwM#X.c9nDyO%Z0e;pF{Q'\\2g=rH}S)^4i?tJ U+`6kAvL\"W-b8mCxN$Y/d:oEzP&[1f<qG|R(]3h>sI~T*_5j@uK!V,a7lBwM#X.c9nDyO%Z0e;pF{Q";
-    write(sealing, checking, sheet, 2, &caption[..n]);
+// Writes as many bytes as caption has, by that rule.
+fn write_spelled(
+    sealing: &[u8],
+    checking: &[u8],
+    sheet: &mut [u8],
+    slot: usize,
+    caption: &mut [u8],
+    first: usize,
+) {
+    spell(caption, first);
+    write(sealing, checking, sheet, slot, caption);
+}
+
+fn write_short(sealing: &[u8], checking: &[u8], sheet: &mut [u8]) {
+    let mut caption = [0u8; 17];
+    write_spelled(sealing, checking, sheet, 1, &mut caption, 7);
+}
+
+fn write_longest(sealing: &[u8], checking: &[u8], sheet: &mut [u8]) {
+    let mut caption = [0u8; 192];
+    write_spelled(sealing, checking, sheet, 2, &mut caption, 38);
+}
+
+fn write_overlong(sealing: &[u8], checking: &[u8], sheet: &mut [u8]) {
+    let mut caption = [0u8; 193];
+    write_spelled(sealing, checking, sheet, 2, &mut caption, 38);
 }
 
 // The serial is 23040 + t.
@@ -63,13 +89,13 @@ fn clear(checking: &[u8], sheet: &mut [u8], slot: usize) {
 fn accepted_writes(sealing: &[u8], checking: &[u8], sheet: &mut [u8]) {
     write(sealing, checking, sheet, 0, b"");
     write_short(sealing, checking, sheet);
-    write_long(sealing, checking, sheet, 192);
+    write_longest(sealing, checking, sheet);
     write(sealing, checking, sheet, 1, b"abc");
 }
 
 fn refused_writes(sealing: &[u8], checking: &[u8], sheet: &mut [u8]) {
     write(sealing, checking, sheet, 3, b"abc");
-    write_long(sealing, checking, sheet, 193);
+    write_overlong(sealing, checking, sheet);
 }
 
 // Twin keys, and keys that differ in one bit.

@@ -2,7 +2,7 @@
 use Prim.Native.Nat.{ℕ, zero, suc, _+_, _*_, _-_, _/_, _%_, _^_, _≤_, _<_}
 use mathlib.Core.Path.{_≡_, refl, sym, ap, ap₂, _∙_, subst}
 use mathlib.Core.Bool.{Bool, true, false, false≢true}
-use mathlib.Core.List.{List, [], _∷_, _++_, List·Memᴰ, List·Memᴰ·head, List·Memᴰ·tail}
+use mathlib.Core.List.{List, [], _∷_, _++_, append-assoc, List·Memᴰ, List·Memᴰ·head, List·Memᴰ·tail}
 use mathlib.Core.Logic.{_↔_, _⊎_, inl, inr, ⊎-elim}
 use native.Mathlib.Decide.{decLt, decLe}
 use native.Mathlib.Nat.{div-div-eq-div-mul}
@@ -265,3 +265,39 @@ only (n ∷ ns) (m ∷ ms) e =
     let a = starts n (encode ns) in
     let b = starts m (encode ms) in
     cons (sym (a .number) ∙ ap first e ∙ b .number) (only ns ms (sym (a .rest) ∙ ap later e ∙ b .rest))
+
+-- ---- bits
+
+pub bits-1 : (n : ℕ) → n ≤ 0x7F → encode (n ∷ []) ≡ n ∷ []
+unfolding encode
+bits-1 n h = ap (λ (c : List ℕ). c ++ []) (encode-one n h)
+
+pub bits-2 : (a b : ℕ) → a < 2 ^ 5 → b < 2 ^ 6 → 0x80 ≤ a * 2 ^ 6 + b → encode ((a * 2 ^ 6 + b) ∷ []) ≡ (0b11000000 + a) ∷ (0b10000000 + b) ∷ []
+unfolding encode
+bits-2 a b p q l = ap (λ (c : List ℕ). c ++ []) (encode-two (a * 2 ^ 6 + b) (omega arith) (omega arith)) ∙ cons (omega arith) (cons (omega arith) refl)
+
+pub bits-3 : (a b c : ℕ) → a < 2 ^ 4 → b < 2 ^ 6 → c < 2 ^ 6 → 0x800 ≤ a * 2 ^ 12 + b * 2 ^ 6 + c
+    → encode ((a * 2 ^ 12 + b * 2 ^ 6 + c) ∷ []) ≡ (0b11100000 + a) ∷ (0b10000000 + b) ∷ (0b10000000 + c) ∷ []
+unfolding encode
+bits-3 a b c p q r l =
+    ap (λ (z : List ℕ). z ++ []) (encode-three (a * 2 ^ 12 + b * 2 ^ 6 + c) (omega arith) (omega arith)) ∙ cons (omega arith) (cons (omega arith) (cons (omega arith) refl))
+
+pub bits-4 : (a b c d : ℕ) → a < 2 ^ 3 → b < 2 ^ 6 → c < 2 ^ 6 → d < 2 ^ 6 → 0x10000 ≤ a * 2 ^ 18 + b * 2 ^ 12 + c * 2 ^ 6 + d
+    → encode ((a * 2 ^ 18 + b * 2 ^ 12 + c * 2 ^ 6 + d) ∷ []) ≡ (0b11110000 + a) ∷ (0b10000000 + b) ∷ (0b10000000 + c) ∷ (0b10000000 + d) ∷ []
+unfolding encode
+bits-4 a b c d p q r t l =
+    ap (λ (z : List ℕ). z ++ []) (encode-four (a * 2 ^ 18 + b * 2 ^ 12 + c * 2 ^ 6 + d) (omega arith))
+    ∙ cons (omega arith) (cons (omega arith) (cons (omega arith) (cons (omega arith) refl)))
+
+pub in-a-row : (ns ms : List ℕ) → encode (ns ++ ms) ≡ encode ns ++ encode ms
+unfolding encode
+in-a-row [] ms = refl
+in-a-row (n ∷ ns) ms = ap (λ (s : List ℕ). encodeOne n ++ s) (in-a-row ns ms) ∙ sym (append-assoc (encodeOne n) (encode ns) (encode ms))
+
+-- ---- lists of code points
+
+head-tail : {n : ℕ} {ns : List ℕ} → CodePoints (n ∷ ns) → CodePoint n × CodePoints ns
+head-tail (point p ps) = (p, ps)
+
+pub points : (n : ℕ) (ns : List ℕ) → CodePoints (n ∷ ns) ↔ (CodePoint n × CodePoints ns)
+points n ns = (head-tail, λ h. point (h .0) (h .1))

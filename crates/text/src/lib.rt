@@ -208,7 +208,8 @@ fn following(first: u8) -> usize
     0
 }
 
-// How many bytes of a character are left after y, where n were left after x; 4 where y can't stand there.
+// How many bytes of a character are left after y, where n were left after x; 4 where y can't stand there. The
+// range after a tail is a tail's.
 fn left_after(n: usize, x: u8, y: u8) -> usize
     requires { ⌜ n < 4 ⌝ }
     ensures { λ r. ⌜ Left n x y r ⌝ }

@@ -24,7 +24,7 @@ pub struct Both {
     pub label: String,
     pub calls: u64,
     /// How often each number was answered.
-    pub numbers: [u64; 15],
+    pub numbers: [u64; 16],
     /// How often each rule was pointed at.
     pub rules: [u64; 13],
     pub listings: u64,
@@ -36,7 +36,7 @@ impl Both {
             place,
             label: label.to_string(),
             calls: 0,
-            numbers: [0; 15],
+            numbers: [0; 16],
             rules: [0; 13],
             listings: 0,
         }
@@ -227,6 +227,21 @@ impl Both {
         self.hold_bytes(call, "sealing key", &sealing, &keys.sealing);
         self.hold_bytes(call, "checking key", &checking, &keys.checking);
         self.hold_bytes(call, "caption", &lent_caption, caption);
+        ours
+    }
+
+    /// Where a text breaks.
+    pub fn broken_at(&mut self, text: &[u8]) -> usize {
+        let call = || format!("broken at, text {text:02x?}");
+        let lent_text = self.lend(text);
+        let theirs = reference::breaks_at(text);
+        let ours = library::broken_at(lent_text.bytes());
+        if ours != theirs {
+            let label = &self.label;
+            panic!("{label}: {}: {ours}, second program {theirs}", call());
+        }
+        self.calls += 1;
+        self.hold_bytes(call, "text", &lent_text, text);
         ours
     }
 

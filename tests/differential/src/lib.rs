@@ -10,6 +10,9 @@ pub mod des;
 #[path = "../../../reference/tests/suite/edition.rs"]
 pub mod edition;
 pub mod lent;
+/// Texts well formed and broken, from the second program's tests.
+#[path = "../../../reference/tests/suite/letters.rs"]
+pub mod letters;
 pub mod library;
 pub mod openssl;
 pub mod random;

@@ -125,6 +125,7 @@ mod c {
             window: *mut u8,
             window_len: usize,
         ) -> Pointed;
+        pub fn captions_broken_at(text: *const u8, text_len: usize) -> usize;
         pub fn captions_day_of_date(year: usize, month: usize, day: usize) -> Day;
         pub fn captions_date_of_day(day: usize) -> Date;
         pub fn captions_list(
@@ -279,6 +280,13 @@ pub fn write(
             caption.len(),
         )
     })
+}
+
+/// Where a text breaks: the place of the first byte at which no well-formed text
+/// can go on, or its length.
+#[inline]
+pub fn broken_at(text: &[u8]) -> usize {
+    unsafe { c::captions_broken_at(text.as_ptr(), text.len()) }
 }
 
 #[inline]

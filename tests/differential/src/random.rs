@@ -36,6 +36,11 @@ impl Random {
         z ^ (z >> 31)
     }
 
+    /// The same, by the name that the second program's tests call.
+    pub fn next(&mut self) -> u64 {
+        self.number()
+    }
+
     /// A number below `bound`.
     pub fn below(&mut self, bound: usize) -> usize {
         (self.number() % bound as u64) as usize

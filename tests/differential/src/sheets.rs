@@ -1,6 +1,7 @@
 //! Keys and sheets to call with: fit ones, and ones with a rule broken.
 
 use crate::edition::Edition;
+use crate::letters::{bad_text, good_text};
 use crate::random::Random;
 
 /// The values of t, the words of a key.
@@ -145,6 +146,14 @@ pub fn caption_length(random: &mut Random) -> usize {
         0 => random.pick(&[0, 1, 7, 8, 9, 191, 192]),
         _ => random.below(FIELD + 1),
     }
+}
+
+/// A caption of a length: well formed, or seldom broken, as none of 0 bytes is.
+pub fn some_caption(random: &mut Random, length: usize) -> Vec<u8> {
+    if length > 0 && random.once_in(8) {
+        return bad_text(random, length);
+    }
+    good_text(random, length)
 }
 
 /// A sheet that meets the layout, each slot blank or written; fields, checks and

@@ -3,6 +3,7 @@
 //! check are put together again from the library's block and CMAC calls.
 
 use differential::edition::Edition;
+use differential::letters::good_text;
 use differential::random::{seed, Random};
 use differential::sheets::{Keys, CLASSES, FIELD};
 use differential::{des, library, openssl, report};
@@ -151,7 +152,7 @@ fn a_write_stores_the_field_and_the_check_of_the_papers() {
         for number in 1..=WRITES as u32 {
             let slot = random.below(5);
             let length = random.below(FIELD + 1);
-            let caption = random.bytes(length);
+            let caption = good_text(&mut random, length);
             let answer = library::write(&keys.sealing, &keys.checking, &mut sheet, slot, &caption);
             assert_eq!(answer.number, 0);
 

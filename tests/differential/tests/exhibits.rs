@@ -5,7 +5,9 @@
 use differential::report;
 use reference::cipher::sealing_key;
 use reference::panel::panel;
-use reference::{bench_block, blank, cmac, decrypt_block, encrypt_block, read, store_field, write};
+use reference::{
+    bench_block, blank, cmac, decrypt_block, encrypt_block, read, store_field, write, Answer,
+};
 
 const SEALING: [u8; 8] = [0x0d, 0x2a, 0x47, 0x64, 0x81, 0x9e, 0xbb, 0xd8];
 const CHECKING: [u8; 8] = [0x54, 0x71, 0x8e, 0xab, 0xc8, 0xe5, 0x02, 0x1f];
@@ -24,13 +26,18 @@ impl Specs {
         Specs { path, text }
     }
 
-    /// The numbers in hex that stand between the text `from` and the next `to`.
-    fn numbers(&self, from: &str, to: &str) -> Vec<u64> {
+    /// What stands behind the text `from`.
+    fn behind(&self, from: &str) -> &str {
         let start = self
             .text
             .find(from)
             .unwrap_or_else(|| panic!("{}: no {from}", self.path));
-        let rest = &self.text[start + from.len()..];
+        &self.text[start + from.len()..]
+    }
+
+    /// The numbers in hex that stand between the text `from` and the next `to`.
+    fn numbers(&self, from: &str, to: &str) -> Vec<u64> {
+        let rest = self.behind(from);
         let end = rest.find(to).unwrap_or(rest.len());
         rest[..end]
             .split("0x")
@@ -52,6 +59,16 @@ impl Specs {
     fn made(&self, field: &str) -> Vec<u8> {
         let numbers = self.numbers(&format!("pub {field} :"), "}");
         numbers.into_iter().map(|number| number as u8).collect()
+    }
+
+    /// The answer's number in a field `NAME : ... ≡ record { number = ...; ... }`.
+    fn answered(&self, field: &str) -> u8 {
+        let rest = self.behind(&format!("pub {field} :"));
+        let number = rest
+            .split("number = ")
+            .nth(1)
+            .and_then(|rest| rest.split(';').next());
+        number.expect("a number").parse().expect("a number")
     }
 }
 
@@ -104,6 +121,7 @@ fn sheets() {
     assert_eq!(values.bytes("lastMark"), worn[16..24]);
     assert_eq!(values.bytes("lastField"), worn[24..]);
     assert_eq!(write(&SEALING, &CHECKING, &mut worn, 0, ABC).number, 8);
+    broken_captions(&worn);
 
     let mut blanked = vec![7; 224];
     assert_eq!(
@@ -121,6 +139,32 @@ fn sheets() {
     );
     assert_eq!(values.bytes("leading"), out);
     report("exhibits: sheets, a check and a bench");
+}
+
+/// The exhibited writes of broken text: a letter that is cut off, in a slot, in one
+/// that there isn't, among 193 bytes, and on a worn sheet. None changes a byte.
+fn broken_captions(worn: &[u8]) {
+    let exhibits = Specs::of("exhibits/specs/Exhibits.antt");
+    let (blank, overlong) = (&one_slot(0)[..], &[0xc3; 193][..]);
+    for (field, sheet, slot, caption, number) in [
+        ("broken", blank, 0, &[0xc3][..], 15),
+        ("broken-nowhere", blank, 1, &[0xc3], 6),
+        ("broken-long", blank, 0, overlong, 7),
+        ("broken-worn", worn, 0, &[0xc3], 15),
+    ] {
+        assert_eq!(exhibits.made(field), [0xc3], "{field}");
+        assert_eq!(exhibits.answered(field), number, "{field}");
+        let mut after = sheet.to_vec();
+        let answer = write(&SEALING, &CHECKING, &mut after, slot, caption);
+        assert_eq!(answer.answer(), Answer::refused(number), "{field}");
+        assert_eq!(
+            (answer.rule, answer.slot, answer.place),
+            (0, 0, 0),
+            "{field}"
+        );
+        assert!(after == sheet, "{field}");
+    }
+    report("exhibits: 4 writes of broken text");
 }
 
 #[test]

@@ -96,7 +96,9 @@ impl Sheets {
                     reference::clear(&mut sheet, slot);
                 } else {
                     let length = self.random.below(FIELD + 1);
-                    let caption = self.random.bytes(length);
+                    let mut caption = self.random.bytes(length);
+                    // ASCII, which a write takes.
+                    caption.iter_mut().for_each(|byte| *byte %= 128);
                     let answer = reference::write(&keys[0], &keys[1], &mut sheet, slot, &caption);
                     assert_eq!(answer.number, 0);
                 }

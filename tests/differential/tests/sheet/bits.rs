@@ -2,6 +2,7 @@
 
 use crate::both;
 use differential::edition::Edition;
+use differential::letters::good_text;
 use differential::random::{seed, Random};
 use differential::report;
 use differential::sheets::{Keys, FIELD};
@@ -16,7 +17,7 @@ fn every_bit(t: usize) {
         let keys = Keys::unlike(&mut random, t);
         let mut sheet = keys.blank_sheet(edition, 3, t);
         both.write(&keys, &mut sheet, 1, b"");
-        both.write(&keys, &mut sheet, 2, &random.bytes(FIELD));
+        both.write(&keys, &mut sheet, 2, &good_text(&mut random, FIELD));
         for bit in 0..8 * sheet.len() {
             both.label = format!(
                 "bit {bit} of a sheet of edition {edition:?} with t = {t}, seed {:#x}",

@@ -6,7 +6,7 @@ use differential::edition::Edition;
 use differential::random::{seed, Random};
 use differential::report;
 use differential::sheets::{
-    fit_sheet, kinds, near_sheet, some_serial, Keys, CLASSES, FAULTS, FIELD,
+    fit_sheet, kinds, near_sheet, some_caption, some_serial, Keys, CLASSES, FAULTS, FIELD,
 };
 use differential::terms::{day_near, some_terms};
 
@@ -34,7 +34,7 @@ pub fn each_call(both: &mut Both, random: &mut Random, edition: Edition, buffer:
     both.list(&sheet);
     for slot in [0, n.saturating_sub(1), n] {
         let length = random.below(FIELD + 2);
-        let caption = random.bytes(length);
+        let caption = some_caption(random, length);
         both.read(&keys, &sheet, slot, FIELD);
         let terms = some_terms(random, n.max(1));
         let day = day_near(random, &terms);

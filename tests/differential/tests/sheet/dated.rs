@@ -6,6 +6,7 @@ use crate::{both, FAR_SLOTS};
 use differential::both::Both;
 use differential::edition::Edition;
 use differential::lent::Place;
+use differential::letters::good_text;
 use differential::random::{seed, Random};
 use differential::sheets::{caption_length, kinds, near_sheet, Keys, CLASSES, FAULTS, FIELD};
 use differential::term_sheet::{
@@ -24,7 +25,7 @@ fn mixed_sheet(random: &mut Random, edition: Edition, n: usize, t: usize) -> (Ke
     let mut sheet = keys.blank_sheet(edition, n, t);
     for slot in (0..n).filter(|slot| slot + 2 != n) {
         let length = caption_length(random);
-        let caption = random.bytes(length);
+        let caption = good_text(random, length);
         reference::write(&keys.sealing, &keys.checking, &mut sheet, slot, &caption);
     }
     if n >= 3 {

@@ -4,6 +4,7 @@
 use crate::{both, FAR_SLOTS};
 use differential::both::Both;
 use differential::edition::Edition;
+use differential::letters::good_text;
 use differential::random::Random;
 use differential::report;
 use differential::sheets::{kinds, last_number, set_last_number, Keys, FIELD};
@@ -73,7 +74,7 @@ fn caption_bytes() {
         let keys = Keys::unlike(&mut random, t);
         let mut sheet = keys.blank_sheet(edition, 2, t);
         for length in (0..=400).chain([192 + 256, 65_536, 65_536 + 192]) {
-            let caption = random.bytes(length);
+            let caption = good_text(&mut random, length);
             let answer = both.write(&keys, &mut sheet, 1, &caption);
             assert_eq!(answer.number, if length <= 192 { 0 } else { OVERLONG });
             let (answer, window) = both.read(&keys, &sheet, 1, FIELD);
@@ -144,7 +145,7 @@ fn windows() {
     for (edition, t) in kinds() {
         let keys = Keys::unlike(&mut random, t);
         let mut sheet = keys.blank_sheet(edition, 2, t);
-        both.write(&keys, &mut sheet, 0, &random.bytes(100));
+        both.write(&keys, &mut sheet, 0, &good_text(&mut random, 100));
         for length in (0..=400).chain([192 + 256, 192 + 65_536]) {
             for slot in 0..2 {
                 let (answer, window) = both.read(&keys, &sheet, slot, length);
@@ -169,7 +170,7 @@ fn sheets_of_1_and_256_slots() {
             both.begin(edition, &keys, &mut sheet, n, t);
             for slot in 0..n {
                 let length = random.below(FIELD + 1);
-                let caption = random.bytes(length);
+                let caption = good_text(&mut random, length);
                 both.write(&keys, &mut sheet, slot, &caption);
             }
             for slot in (0..n).step_by(7) {
@@ -197,7 +198,7 @@ fn zeros_past_the_length() {
         let keys = Keys::unlike(&mut random, t);
         for nonzero in [0, 1, 8, 9, 100, 191, 192] {
             let mut sheet = keys.blank_sheet(edition, 2, t);
-            let caption: Vec<u8> = (0..nonzero).map(|i| i as u8 | 1).collect();
+            let caption: Vec<u8> = (0..nonzero).map(|i| i as u8 % 128 | 1).collect();
             both.write(&keys, &mut sheet, 1, &caption);
             for length in 0..=192 {
                 put_length(edition, &keys, &mut sheet, length as u16);

@@ -3,6 +3,7 @@
 use crate::both;
 use crate::dated::NUMBERS;
 use differential::edition::Edition;
+use differential::letters::{bad_text, good_text};
 use differential::random::Random;
 use differential::report;
 use differential::sheets::{kinds, set_last_number, Keys, CLASSES, FIELD, UNKNOWN_EDITION};
@@ -44,7 +45,7 @@ fn sheets(
     let mut fit = keys.blank_sheet(edition, SLOTS, t);
     set_last_number(&mut fit, w - 3);
     for (slot, length) in [(0, 100), (1, 192), (2, 0)] {
-        let caption = random.bytes(length);
+        let caption = good_text(random, length);
         let answer = reference::write(&keys.sealing, &keys.checking, &mut fit, slot, &caption);
         assert_eq!(answer.number, 0);
     }
@@ -86,7 +87,11 @@ fn every_combination_of_faults() {
                             both.read(keys, &sheet, slot, window);
                         }
                         for length in [0, FIELD, FIELD + 1] {
-                            let caption = random.bytes(length);
+                            let caption = good_text(&mut random, length);
+                            both.write(keys, &mut sheet.clone(), slot, &caption);
+                        }
+                        for length in [1, FIELD, FIELD + 1] {
+                            let caption = bad_text(&mut random, length);
                             both.write(keys, &mut sheet.clone(), slot, &caption);
                         }
                     }
@@ -94,7 +99,7 @@ fn every_combination_of_faults() {
             }
         }
     }
-    both.hold_met((0..=10).chain([14]));
+    both.hold_met((0..=10).chain([14, 15]));
     let (calls, met) = (both.calls, both.numbers_met());
     report(&format!(
         "sheet: combinations of faults, {calls} calls: {met}"

@@ -8,7 +8,7 @@ use differential::edition::Edition;
 use differential::lent::Place;
 use differential::random::{seed, Random};
 use differential::report;
-use differential::sheets::{caption_length, kinds, Keys, FIELD};
+use differential::sheets::{caption_length, kinds, some_caption, Keys, FIELD};
 use differential::terms::{day_near, some_terms};
 
 fn blocks_and_messages(both: &mut Both, random: &mut Random) {
@@ -38,7 +38,7 @@ fn written_sheets(both: &mut Both, random: &mut Random) {
             both.begin(edition, &keys, &mut sheet, n, t);
             for slot in (0..n).take(20).chain([n - 1]) {
                 let length = caption_length(random);
-                let caption = random.bytes(length);
+                let caption = some_caption(random, length);
                 both.write(&keys, &mut sheet, slot, &caption);
             }
             both.clear(&mut sheet, n / 2);

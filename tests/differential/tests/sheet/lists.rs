@@ -7,8 +7,8 @@ use differential::edition::Edition;
 use differential::random::{seed, Random};
 use differential::report;
 use differential::sheets::{
-    caption_length, last_number, set_last_number, some_serial, with_some_serial, Keys, CLASSES,
-    FIELD,
+    caption_length, last_number, set_last_number, some_caption, some_serial, with_some_serial,
+    Keys, CLASSES, FIELD,
 };
 use differential::term_sheet::{belongs, on_show, LAST_DAY};
 use differential::terms::{day_near, some_terms};
@@ -40,7 +40,7 @@ struct State {
 struct Asked {
     calls: u64,
     pages: u64,
-    strangers: [[u64; 15]; 4],
+    strangers: [[u64; 16]; 4],
 }
 
 fn list(both: &mut Both, random: &mut Random, (edition, t): (Edition, usize), asked: &mut Asked) {
@@ -136,7 +136,7 @@ impl State {
         };
         let caption = match random.below(6) {
             0 => vec![0; length],
-            _ => random.bytes(length),
+            _ => some_caption(random, length),
         };
         let (keys, own) = self.some_keys(random);
         if !own {
@@ -342,9 +342,9 @@ fn lists(t: usize) {
             list(&mut both, &mut random, (edition, t), &mut asked);
         }
     }
-    both.hold_met((0..=12).chain([14]));
+    both.hold_met((0..=12).chain([14, 15]));
     for (edition, met) in asked.strangers.iter().enumerate().skip(1) {
-        let numbers: Vec<usize> = (0..15).filter(|number| met[*number] > 100).collect();
+        let numbers: Vec<usize> = (0..16).filter(|number| met[*number] > 100).collect();
         let expected: &[usize] = if edition == 3 {
             &[1, 2, 5, 14]
         } else {

@@ -6,6 +6,7 @@ use crate::edges::done;
 use crate::{both, FAR_SLOTS};
 use differential::both::{Both, Direction};
 use differential::edition::Edition;
+use differential::letters::{bad_text, good_text};
 use differential::random::Random;
 use differential::sheets::{set_last_number, some_serial, Keys, CLASSES, FIELD};
 use differential::term_sheet::{put_number, term_sheet, ALWAYS, NEVER};
@@ -70,7 +71,7 @@ fn mixed_sheet(random: &mut Random, edition: Edition, t: usize) -> (Keys, Vec<u8
     let keys = Keys::unlike(random, t);
     let mut sheet = keys.blank_sheet(edition, SLOTS, t);
     for (slot, length) in [(0, 17), (2, 40), (3, FIELD)] {
-        let caption = random.bytes(length);
+        let caption = good_text(random, length);
         let answer = reference::write(&keys.sealing, &keys.checking, &mut sheet, slot, &caption);
         assert_eq!(answer.number, 0);
     }
@@ -352,14 +353,21 @@ fn other_keys_among_the_refusals_of_a_dated_read() {
     done(&both, "14 among a dated read's refusals");
 }
 
-/// 14 is hidden by 1, 2, 4 and 5, and hides 6, 7 and 8.
+/// 14 is hidden by 1, 2, 4 and 5, and hides 6, 7, 15 and 8.
 #[test]
 fn other_keys_among_the_refusals_of_a_write() {
     let mut random = Random::of_part(607);
     let mut both = both("14 among a write's refusals");
     for t in CLASSES {
         let order = Order::of_class(&mut random, t);
-        for (slot, length, own) in [(0, 192, 8), (0, 193, 7), (SLOTS, 193, 6)] {
+        let (good, bad) = (good_text(&mut random, 192), bad_text(&mut random, 192));
+        let overlong = bad_text(&mut random, 193);
+        for (slot, caption, own) in [
+            (0, &good, 8),
+            (0, &bad, 15),
+            (0, &overlong, 7),
+            (SLOTS, &overlong, 6),
+        ] {
             for (keys, sheet, number) in [
                 (&order.own, &order.sheet, own),
                 (&order.others, &order.sheet, OTHER_KEYS),
@@ -368,12 +376,11 @@ fn other_keys_among_the_refusals_of_a_write() {
                 (&order.twins, &order.unfit, 2),
                 (&order.wrong, &order.unfit, 1),
             ] {
-                let caption = random.bytes(length);
-                let answer = both.write(keys, &mut sheet.clone(), slot, &caption);
+                let answer = both.write(keys, &mut sheet.clone(), slot, caption);
                 assert_eq!(answer.number, number, "slot {slot}, t = {t}");
             }
         }
     }
-    both.hold_met([1, 2, 4, 5, 6, 7, 8, 14]);
+    both.hold_met([1, 2, 4, 5, 6, 7, 8, 14, 15]);
     done(&both, "14 among a write's refusals");
 }

@@ -4,6 +4,7 @@
 use crate::both;
 use differential::both::Both;
 use differential::edition::Edition;
+use differential::letters::good_text;
 use differential::random::Random;
 use differential::report;
 use differential::sheets::{kinds, set_last_number, Keys, FIELD};
@@ -16,7 +17,7 @@ const SLOTS: usize = 3;
 fn good_sheet(random: &mut Random, edition: Edition, t: usize, keys: &Keys) -> Vec<u8> {
     let mut sheet = keys.blank_sheet(edition, SLOTS, t);
     for (slot, length) in [(0, 17), (2, FIELD)] {
-        let caption = random.bytes(length);
+        let caption = good_text(random, length);
         let answer = reference::write(&keys.sealing, &keys.checking, &mut sheet, slot, &caption);
         assert_eq!(answer.number, 0);
     }
