@@ -100,7 +100,23 @@ module _ (x : ℕ) where
       let c : 0xF0 ≤ x = omega arith in
       rw (le-ltb x 0xC2 a, le-ltb x 0xE0 b, le-ltb x 0xF0 c, le-ltb x 0xF5 l)
 
-  -- the range of the byte after x is a tail's, but for four bytes
+  -- the range of the byte after x: that of a tail, but for four bytes
+  pub after-E0 : x ≡ 0xE0 → second x ≡ 0xA0 to 0xBF
+  unfolding second secondLow secondHigh
+  after-E0 e = rw e
+
+  pub after-ED : x ≡ 0xED → second x ≡ 0x80 to 0x9F
+  unfolding second secondLow secondHigh
+  after-ED e = rw e
+
+  pub after-F0 : x ≡ 0xF0 → second x ≡ 0x90 to 0xBF
+  unfolding second secondLow secondHigh
+  after-F0 e = rw e
+
+  pub after-F4 : x ≡ 0xF4 → second x ≡ 0x80 to 0x8F
+  unfolding second secondLow secondHigh
+  after-F4 e = rw e
+
   pub second-tail : (x ≡ 0xE0 → ⊥) → (x ≡ 0xF0 → ⊥) → (x ≡ 0xED → ⊥) → (x ≡ 0xF4 → ⊥) → second x ≡ tail
   unfolding second secondLow secondHigh
   second-tail a b c d = rw (ne-eqb x 0xE0 a, ne-eqb x 0xF0 b, ne-eqb x 0xED c, ne-eqb x 0xF4 d)

@@ -15,56 +15,35 @@ use Rattle.octets.proofs.Bool.{and-false-left, and-false-right, if-true, if-fal
 use Rattle.octets.proofs.Parts.{drop-next}
 use Rattle.text.specs.Grammar.{Range, _to_, tail, forms, inside, after, some, meets, wellFormed}
 use Rattle.text.specs.Steps.{following, secondLow, secondHigh, second, ahead, Passes, Rest, Character}
-use Rattle.text.proofs.Leads.{begins-one, begins-none, begins-more, follows-none, follows-one, follows-two, follows-three, follows-above, second-tail}
+use Rattle.text.proofs.Leads.{begins-one, begins-none, begins-more, follows-none, follows-one, follows-two, follows-three, follows-above, after-E0, after-ED, after-F0, after-F4, second-tail}
 
 -- ---- a byte and a range
 
-below : (low high y : ℕ) → y < low → false ≡ inside (low to high) y
-unfolding inside
-below low high y h = rw (lt-leb low y h)
+module _ (low high y : ℕ) where
+  pub below : y < low → false ≡ inside (low to high) y
+  unfolding inside
+  below h = rw (lt-leb low y h)
 
-from : (low high y : ℕ) → low ≤ y → leb y high ≡ inside (low to high) y
-unfolding inside
-from low high y h = rw (le-leb low y h)
+  pub from : low ≤ y → leb y high ≡ inside (low to high) y
+  unfolding inside
+  from h = rw (le-leb low y h)
 
-pub tail-below : (y : ℕ) → y < 0x80 → false ≡ inside tail y
-tail-below = below 0x80 0xBF
+-- the byte after x, by the test of its range
+module _ (x y : ℕ) (b : Bool) where
+  pub second-E0 : x ≡ 0xE0 → b ≡ inside (0xA0 to 0xBF) y → b ≡ inside (second x) y
+  second-E0 e q = q ∙ ap (λ (r : Range). inside r y) (sym (after-E0 x e))
 
-pub tail-from : (y : ℕ) → 0x80 ≤ y → leb y 0xBF ≡ inside tail y
-tail-from = from 0x80 0xBF
+  pub second-ED : x ≡ 0xED → b ≡ inside (0x80 to 0x9F) y → b ≡ inside (second x) y
+  second-ED e q = q ∙ ap (λ (r : Range). inside r y) (sym (after-ED x e))
 
-pub second-below : (x y l : ℕ) → l ≡ secondLow x → y < l → false ≡ inside (second x) y
-unfolding second
-second-below x y l e h = below (secondLow x) (secondHigh x) y (omega arith)
+  pub second-F0 : x ≡ 0xF0 → b ≡ inside (0x90 to 0xBF) y → b ≡ inside (second x) y
+  second-F0 e q = q ∙ ap (λ (r : Range). inside r y) (sym (after-F0 x e))
 
-pub second-from : (x y l h : ℕ) → l ≡ secondLow x → h ≡ secondHigh x → l ≤ y → leb y h ≡ inside (second x) y
-unfolding second
-second-from x y l h e f g = ap (leb y) f ∙ from (secondLow x) (secondHigh x) y (omega arith)
+  pub second-F4 : x ≡ 0xF4 → b ≡ inside (0x80 to 0x8F) y → b ≡ inside (second x) y
+  second-F4 e q = q ∙ ap (λ (r : Range). inside r y) (sym (after-F4 x e))
 
-module _ (x : ℕ) where
-  pub low-E0 : x ≡ 0xE0 → 0xA0 ≡ secondLow x
-  unfolding secondLow
-  low-E0 e = rw (eq-eqb x 0xE0 e)
-
-  pub low-F0 : (x ≡ 0xE0 → ⊥) → x ≡ 0xF0 → 0x90 ≡ secondLow x
-  unfolding secondLow
-  low-F0 d e = rw (ne-eqb x 0xE0 d, eq-eqb x 0xF0 e)
-
-  pub low-other : (x ≡ 0xE0 → ⊥) → (x ≡ 0xF0 → ⊥) → 0x80 ≡ secondLow x
-  unfolding secondLow
-  low-other d e = rw (ne-eqb x 0xE0 d, ne-eqb x 0xF0 e)
-
-  pub high-ED : x ≡ 0xED → 0x9F ≡ secondHigh x
-  unfolding secondHigh
-  high-ED e = rw (eq-eqb x 0xED e)
-
-  pub high-F4 : (x ≡ 0xED → ⊥) → x ≡ 0xF4 → 0x8F ≡ secondHigh x
-  unfolding secondHigh
-  high-F4 d e = rw (ne-eqb x 0xED d, eq-eqb x 0xF4 e)
-
-  pub high-other : (x ≡ 0xED → ⊥) → (x ≡ 0xF4 → ⊥) → 0xBF ≡ secondHigh x
-  unfolding secondHigh
-  high-other d e = rw (ne-eqb x 0xED d, ne-eqb x 0xF4 e)
+  pub second-other : (x ≡ 0xE0 → ⊥) → (x ≡ 0xED → ⊥) → (x ≡ 0xF0 → ⊥) → (x ≡ 0xF4 → ⊥) → b ≡ inside tail y → b ≡ inside (second x) y
+  second-other a c d e q = q ∙ ap (λ (r : Range). inside r y) (sym (second-tail x a d c e))
 
 -- ---- bytes that lie in ranges
 

@@ -3,54 +3,44 @@ ghost use mathlib.Core.Path.{_≡_};
 ghost use mathlib.Core.Bool.{true};
 ghost use Prim.Native.Nat.{_+_, _≤_, _<_};
 ghost use lib.ListN.{length, getD};
-ghost use Rattle.text.specs.Grammar.{inside, tail, wellFormed};
+ghost use Rattle.text.specs.Grammar.{_to_, inside, tail, wellFormed};
 ghost use Rattle.text.specs.Place.{brokenAt};
-ghost use Rattle.text.specs.Steps.{secondLow, secondHigh, second, following, Rest, Passes, Character, Left};
+ghost use Rattle.text.specs.Steps.{second, following, Rest, Passes, Character, Left};
 
 // ---- a character of more than one byte
+
+fn between(y: u8, low: u8, high: u8) -> bool
+    ensures { λ r. ⌜ r ≡ inside (low to high) y ⌝ }
+{
+    if y < low {
+        return false;
+    }
+    y <= high
+}
 
 fn is_tail(y: u8) -> bool
     ensures { λ r. ⌜ r ≡ inside tail y ⌝ }
 {
-    if y < 0x80 {
-        return false;
-    }
-    y <= 0xBF
+    between(y, 0x80, 0xBF)
 }
 
-// Below these a character would be overlong.
-fn second_low(x: u8) -> u8
-    ensures { λ r. ⌜ r ≡ secondLow x ⌝ }
-{
-    if x == 0xE0 {
-        return 0xA0;
-    }
-    if x == 0xF0 {
-        return 0x90;
-    }
-    0x80
-}
-
-// Above these it would be a surrogate, or lie above U+10FFFF.
-fn second_high(x: u8) -> u8
-    ensures { λ r. ⌜ r ≡ secondHigh x ⌝ }
-{
-    if x == 0xED {
-        return 0x9F;
-    }
-    if x == 0xF4 {
-        return 0x8F;
-    }
-    0xBF
-}
-
+// The byte after x: below these ranges a character would be overlong, above them a surrogate, or beyond U+10FFFF.
 fn is_second(x: u8, y: u8) -> bool
     ensures { λ r. ⌜ r ≡ inside (second x) y ⌝ }
 {
-    if y < second_low(x) {
-        return false;
+    if x == 0xE0 {
+        return between(y, 0xA0, 0xBF);
     }
-    y <= second_high(x)
+    if x == 0xED {
+        return between(y, 0x80, 0x9F);
+    }
+    if x == 0xF0 {
+        return between(y, 0x90, 0xBF);
+    }
+    if x == 0xF4 {
+        return between(y, 0x80, 0x8F);
+    }
+    is_tail(y)
 }
 
 fn two(s: &[u8], i: usize, x: u8) -> bool

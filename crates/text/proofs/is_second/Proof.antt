@@ -1,6 +1,6 @@
 -- `text::is_second` meets its contract.
 use borrow.Author.Needs.{needs}
-use Rattle.text.proofs.Ways.{second-below, second-from}
+use Rattle.text.proofs.Ways.{second-E0, second-ED, second-F0, second-F4, second-other}
 use Rattle.text.proofs.is_second.Statement.{statement}
 use Rattle.text.proofs.is_second.Tie as tie
 
@@ -9,6 +9,12 @@ is-second-spec =
     tie.close
     (tie.spec
     (λ c κs. search needs)
-    (λ c. search (second-below, needs))
+    (λ c. search (second-E0, needs))
     (λ c κs. search needs)
-    (λ c. search (second-from, needs)))
+    (λ c. search (second-ED, needs))
+    (λ c κs. search needs)
+    (λ c. search (second-F0, needs))
+    (λ c κs. search needs)
+    (λ c. search (second-F4, needs))
+    (λ c κs. search needs)
+    (λ c. search (second-other, needs)))
