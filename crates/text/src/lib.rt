@@ -1,4 +1,4 @@
-// UTF-8 of RFC 3629: whether bytes are well-formed text.
+// UTF-8 of RFC 3629: whether bytes are well-formed text, and where they break.
 ghost use mathlib.Core.Path.{_≡_};
 ghost use mathlib.Core.Bool.{true};
 ghost use Prim.Native.Nat.{_+_, _≤_, _<_};
