@@ -1,5 +1,5 @@
 -- Demand 1: exactly which calls are refused, by which number; a refusal changes nothing, but that a refused read makes its window zero; every other call is accepted.
--- Every public call that can be refused is listed with its clauses, in the order of its tests: a number, and what it is met by. The listing refuses nothing.
+-- Every public call that can be refused is listed with its clauses, in the order of its tests: a number, and what it is met by. The listing, and the place at which a text breaks, refuse nothing.
 use Prim.Native.Nat.{ℕ, _+_, _*_, _≤_, _<_}
 use mathlib.Core.Path.{_≡_}
 use mathlib.Core.List.{List, [], _∷_}
