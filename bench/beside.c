@@ -1,7 +1,8 @@
 /* Two calls by turns, and what the second takes of the first's time. bench/beside
  * builds it in two ways. With BEFORE: block, CMAC, read, dated read and write by the
  * library before and after a change; the functions before_... are the earlier
- * library's, and BEFORE is the answer that its reads and write give. Without: read,
+ * library's, and BEFORE is the answer that its reads and write give; with PRESENT, which
+ * is for an earlier library that has it, block, read and write by that too. Without: read,
  * dated read and write by one library on sheets of editions 2 and 3, which differ in
  * byte 3 and the key mark alone, so that the ratio is what the test of the mark
  * costs. */
@@ -16,6 +17,7 @@ enum { ROUNDS = 301, FULL = CAPTIONS_SHEET(256), DAY = 9000 };
 
 static uint8_t sealing[16], checking[16], text[65536], terms[CAPTIONS_TERMS(256)], out[192];
 static size_t slots, bytes;
+static size_t pair = 16; /* the bytes of each key of a sheet's pair */
 
 /* Captions of 192 bytes, well formed: ASCII, and 64 letters of three bytes. */
 static uint8_t ascii[192], letters[192];
@@ -31,18 +33,18 @@ static captions_answer plain(int number, int value)
 
 static captions_answer read_of(const uint8_t *sheet)
 {
-    captions_pointed answer = captions_read(sealing, 16, checking, 16, sheet, bytes, slots - 1, out, 192);
+    captions_pointed answer = captions_read(sealing, pair, checking, pair, sheet, bytes, slots - 1, out, 192);
     return plain(answer.number, answer.length);
 }
 static captions_answer dated_read_of(const uint8_t *sheet)
 {
-    captions_pointed answer = captions_dated_read(sealing, 16, checking, 16, sheet, bytes, terms, CAPTIONS_TERMS(slots),
+    captions_pointed answer = captions_dated_read(sealing, pair, checking, pair, sheet, bytes, terms, CAPTIONS_TERMS(slots),
                                                   slots - 1, DAY, out, 192);
     return plain(answer.number, answer.length);
 }
 static captions_answer write_of(uint8_t *sheet)
 {
-    captions_pointed answer = captions_write(sealing, 16, checking, 16, sheet, bytes, slots - 1, caption, 192);
+    captions_pointed answer = captions_write(sealing, pair, checking, pair, sheet, bytes, slots - 1, caption, 192);
     return plain(answer.number, answer.length);
 }
 
@@ -78,23 +80,49 @@ static captions_answer cmac_before(void) { return before_captions_cmac(sealing, 
 static captions_answer cmac_after(void) { return captions_cmac(sealing, key, text, length, out, 8); }
 static captions_answer read_before(void)
 {
-    BEFORE answer = before_captions_read(sealing, 16, checking, 16, sheet, bytes, slots - 1, out, 192);
+    BEFORE answer = before_captions_read(sealing, pair, checking, pair, sheet, bytes, slots - 1, out, 192);
     return plain(answer.number, answer.length);
 }
 static captions_answer read_after(void) { return read_of(sheet); }
 static captions_answer dated_before(void)
 {
-    BEFORE answer = before_captions_dated_read(sealing, 16, checking, 16, sheet, bytes, terms, CAPTIONS_TERMS(slots),
+    BEFORE answer = before_captions_dated_read(sealing, pair, checking, pair, sheet, bytes, terms, CAPTIONS_TERMS(slots),
                                                slots - 1, DAY, out, 192);
     return plain(answer.number, answer.length);
 }
 static captions_answer dated_after(void) { return dated_read_of(sheet); }
 static captions_answer write_before(void)
 {
-    BEFORE answer = before_captions_write(sealing, 16, checking, 16, sheet, bytes, slots - 1, caption, 192);
+    BEFORE answer = before_captions_write(sealing, pair, checking, pair, sheet, bytes, slots - 1, caption, 192);
     return plain(answer.number, answer.length);
 }
 static captions_answer write_after(void) { return write_of(sheet); }
+
+#ifdef PRESENT
+
+captions_answer before_captions_present_encrypt_block(const uint8_t *, size_t, const uint8_t *, size_t, uint8_t *,
+                                                      size_t);
+captions_answer before_captions_present_decrypt_block(const uint8_t *, size_t, const uint8_t *, size_t, uint8_t *,
+                                                      size_t);
+
+static captions_answer present_encrypt_before(void)
+{
+    return before_captions_present_encrypt_block(sealing, key, text, 8, out, 8);
+}
+static captions_answer present_encrypt_after(void)
+{
+    return captions_present_encrypt_block(sealing, key, text, 8, out, 8);
+}
+static captions_answer present_decrypt_before(void)
+{
+    return before_captions_present_decrypt_block(sealing, key, text, 8, out, 8);
+}
+static captions_answer present_decrypt_after(void)
+{
+    return captions_present_decrypt_block(sealing, key, text, 8, out, 8);
+}
+
+#endif
 
 #else
 
@@ -183,7 +211,7 @@ static void lay_out(uint8_t *sheet, size_t n, uint8_t edition)
 static void fill(uint8_t *sheet)
 {
     for (size_t i = 0; i < slots; i++)
-        captions_write(sealing, 16, checking, 16, sheet, bytes, i, ascii, 192);
+        captions_write(sealing, pair, checking, pair, sheet, bytes, i, ascii, 192);
 }
 
 #ifdef BEFORE
@@ -194,6 +222,31 @@ static void full_sheet(size_t n)
     bytes = 8 + 208 * n;
     lay_out(sheet, n, 1);
     fill(sheet);
+}
+
+/* PRESENT with keys of 80 and 128 bits: blocks, and full sheets of 16 slots. */
+static void present_rows(void)
+{
+#ifdef PRESENT
+    static const size_t classes[][2] = {{21, 10}, {24, 16}};
+    char name[64];
+    for (size_t i = 0; i < 2; i++) {
+        key = pair = classes[i][1];
+        snprintf(name, sizeof name, "PRESENT block encrypted, %zu-bit key", 8 * key);
+        row(name, present_encrypt_before, present_encrypt_after);
+        snprintf(name, sizeof name, "PRESENT block decrypted, %zu-bit key", 8 * key);
+        row(name, present_decrypt_before, present_decrypt_after);
+        slots = 16;
+        bytes = CAPTIONS_SHEET(slots);
+        captions_blank(sheet, bytes, slots, classes[i][0], 0, sealing, pair, checking, pair);
+        fill(sheet);
+        caption = ascii;
+        snprintf(name, sizeof name, "read, PRESENT, %zu-bit keys, full sheet, 16", 8 * pair);
+        row(name, read_before, read_after);
+        snprintf(name, sizeof name, "write of ASCII, PRESENT, %zu-bit keys, full sheet, 16", 8 * pair);
+        row(name, write_before, write_after);
+    }
+#endif
 }
 
 static void rows(void)
@@ -229,6 +282,7 @@ static void rows(void)
         snprintf(name, sizeof name, "write of 3-byte letters, full sheet, %zu", n);
         row(name, write_before, write_after);
     }
+    present_rows();
 }
 
 #else

@@ -29,7 +29,7 @@ extern "C" {
 /* The version of this header, and that of the library that is linked. The two
  * are meant to be equal; where they aren't, a call may not be as it is declared
  * here. The text is the library's own and stays. */
-#define CAPTIONS_VERSION "0.7.0"
+#define CAPTIONS_VERSION "0.7.1"
 const char *captions_version(void);
 
 /* What a call answers, reads and writes aside: number is CAPTIONS_ACCEPTED or a
@@ -61,7 +61,8 @@ enum {
     CAPTIONS_RULE_NONE = 0,
     CAPTIONS_RULE_SHORT = 1,       /* under 8 bytes */
     CAPTIONS_RULE_SLOTS = 2,       /* bytes 0 and 1: not 1 to 256 slots */
-    CAPTIONS_RULE_KEY_WORDS = 3,   /* byte 2: not 4, 6 or 8 */
+    CAPTIONS_RULE_KEY_WORDS = 3,   /* byte 2: not 4, 6 or 8, nor in edition 3 21
+                                      or 24 */
     CAPTIONS_RULE_EDITION = 4,     /* byte 3: not 1, 2 or 3 */
     CAPTIONS_RULE_HEADER_BYTE = 5, /* edition 2: a byte from 10 to 15 that isn't
                                       zero */
@@ -84,7 +85,7 @@ enum {
 #define CAPTIONS_RULE_WORDS                                                    \
     {                                                                          \
         "no rule", "fewer than 8 bytes", "not 1 to 256 slots (bytes 0 and 1)", \
-            "not 4, 6 or 8 key words (byte 2)",                                \
+            "not a key class of its edition (byte 2)",                         \
             "not edition 1, 2 or 3 (byte 3)",                                  \
             "a byte of the header that is not zero",                           \
             "another length than so many slots have",                          \
@@ -114,9 +115,10 @@ typedef struct {
  * zero, also where the window has a wrong length. */
 enum {
     CAPTIONS_ACCEPTED = 0,
-    CAPTIONS_WRONG_KEY = 1,       /* a key isn't 8, 12 or 16 bytes, or the two
-                                     lengths differ; blanking: key_words isn't
-                                     4, 6 or 8 */
+    CAPTIONS_WRONG_KEY = 1,       /* a key isn't 8, 12 or 16 bytes (on sheets 10
+                                     too, PRESENT's blocks: isn't 10 or 16), or
+                                     the two lengths differ; blanking: key_class
+                                     isn't 4, 6, 8, 21 or 24 */
     CAPTIONS_TWIN_KEYS = 2,       /* sealing and checking key are equal */
     CAPTIONS_WRONG_SPAN = 3,      /* a block, an array or their output isn't 8
                                      bytes, a check output isn't 8, a window
@@ -130,8 +132,8 @@ enum {
                                      with another slot count than the sheet's,
                                      not CAPTIONS_TERMS(slots) bytes, or with a
                                      day above CAPTIONS_LAST_DAY, in any slot */
-    CAPTIONS_OTHER_KEY_CLASS = 5, /* keys of another length than the sheet's;
-                                     blanking: than key_words has */
+    CAPTIONS_OTHER_KEY_CLASS = 5, /* keys of another length than the sheet's
+                                     cipher has; blanking: than key_class has */
     CAPTIONS_NO_SUCH_SLOT = 6,    /* the slot isn't below the slot count */
     CAPTIONS_OVERLONG = 7,        /* a caption above 192 bytes, a panel above
                                      CAPTIONS_PANEL */
@@ -162,8 +164,19 @@ enum {
             "other keys", "broken text"                                        \
     }
 
+/* The key classes, a cipher with a length of keys each: what captions_blank takes,
+ * and byte 2 of a sheet. Only edition 3 has those of PRESENT. Keys of 16 bytes fit
+ * two classes; byte 2 says which cipher they are used with. */
+enum {
+    CAPTIONS_MCRYPTON_64 = 4,  /* keys of 8 bytes */
+    CAPTIONS_MCRYPTON_96 = 6,  /* keys of 12 bytes */
+    CAPTIONS_MCRYPTON_128 = 8, /* keys of 16 bytes */
+    CAPTIONS_PRESENT_80 = 21,  /* keys of 10 bytes */
+    CAPTIONS_PRESENT_128 = 24  /* keys of 16 bytes */
+};
+
 #define CAPTIONS_BLOCK 8     /* bytes of a block, an array or their output */
-#define CAPTIONS_ROUNDS 12   /* the rounds of a block, and the last of them */
+#define CAPTIONS_ROUNDS 12   /* the rounds of mCrypton, and the last of them */
 #define CAPTIONS_CHECK 8     /* bytes of a check (CMAC) */
 #define CAPTIONS_HEADER 16   /* bytes of a sheet before its marks */
 #define CAPTIONS_HEADER_1 8  /* the same of a sheet of edition 1 */
@@ -191,10 +204,11 @@ enum {
  * included; where the opening is above the closing day, never. */
 #define CAPTIONS_TERMS(slots) (2 + 4 * (size_t)(slots))
 
-/* Seals (encrypts) or opens (decrypts) one block. Bit r - 1 of path, from the
- * lowest, is 1 for the word path in round r and 0 for the nibble path; the top
- * four bits count for nothing. Every path gives the same bytes, so 0xffff, the
- * word path throughout, will do. Refusals: WRONG_KEY, WRONG_SPAN. */
+/* Seals (encrypts) or opens (decrypts) one block with mCrypton, under a key of
+ * 8, 12 or 16 bytes. Bit r - 1 of path, from the lowest, is 1 for the word path
+ * in round r and 0 for the nibble path; the top four bits count for nothing.
+ * Every path gives the same bytes, so 0xffff, the word path throughout, will do.
+ * Refusals: WRONG_KEY, WRONG_SPAN. */
 captions_answer captions_encrypt_block(const uint8_t *key, size_t key_len,
                                        const uint8_t *block, size_t block_len,
                                        uint16_t path,
@@ -204,9 +218,18 @@ captions_answer captions_decrypt_block(const uint8_t *key, size_t key_len,
                                        uint16_t path,
                                        uint8_t *out, size_t out_len);
 
-/* For a bench that tests chips by watching one round: puts into out the one
- * block that leads to the wanted array after that round of sealing it under the
- * key. No other block leads there. Round 0 is after the first key addition,
+/* Seals or opens one block with PRESENT (ISO/IEC 29192-2), under a key of 10 or
+ * 16 bytes. Refusals: WRONG_KEY, WRONG_SPAN. */
+captions_answer captions_present_encrypt_block(
+    const uint8_t *key, size_t key_len, const uint8_t *block, size_t block_len,
+    uint8_t *out, size_t out_len);
+captions_answer captions_present_decrypt_block(
+    const uint8_t *key, size_t key_len, const uint8_t *block, size_t block_len,
+    uint8_t *out, size_t out_len);
+
+/* For a bench that tests mCrypton chips by watching one round: puts into out the
+ * one block that leads to the wanted array after that round of sealing it under
+ * the key. No other block leads there. Round 0 is after the first key addition,
  * round 12 before the last step (phi). The array is 8 bytes, 16 nibbles row by
  * row, as a block is. Refusals: WRONG_KEY, WRONG_SPAN, NO_SUCH_ROUND. */
 captions_answer captions_bench_block(const uint8_t *key, size_t key_len,
@@ -214,16 +237,16 @@ captions_answer captions_bench_block(const uint8_t *key, size_t key_len,
                                      const uint8_t *wanted, size_t wanted_len,
                                      uint8_t *out, size_t out_len);
 
-/* Puts the check (CMAC) of a message of any length into out.
+/* Puts the check (CMAC) of a message of any length, with mCrypton, into out.
  * Refusals: WRONG_KEY, WRONG_SPAN. */
 captions_answer captions_cmac(const uint8_t *key, size_t key_len,
                               const uint8_t *message, size_t message_len,
                               uint8_t *out, size_t out_len);
 
 /* Seals a wall panel of 0 to CAPTIONS_PANEL bytes into out, as many bytes, by
- * counter mode (CTR of SP 800-38A). Called again on the sealed bytes with the same
- * key and the same first, it opens them. Block i of 8 bytes, from 0, is added to
- * the sealed number first + i, which wraps at 64 bits.
+ * counter mode (CTR of SP 800-38A) with mCrypton. Called again on the sealed bytes
+ * with the same key and the same first, it opens them. Block i of 8 bytes, from 0,
+ * is added to the sealed number first + i, which wraps at 64 bits.
  *
  * WARNING: never seal two panels under one key from the same numbers: whoever has
  * both has their exclusive or, and with one of the two texts the other. The
@@ -245,11 +268,12 @@ static inline uint64_t captions_panel_blocks(size_t panel_len)
 }
 
 /* Makes the bytes of sheet, CAPTIONS_SHEET(slots), a sheet of blank slots for
- * this pair of keys, which have key_words 16-bit words each: 4, 6 or 8 for keys
- * of 8, 12 or 16 bytes. What the bytes were doesn't matter.
+ * this pair of keys. key_class is one of the key classes above: it says which
+ * cipher seals, checks and marks the sheet, and how many bytes its keys have.
+ * What the bytes were doesn't matter.
  *
  * That pair serves the sheet from then on. Bytes 10 to 15 are the key mark,
- * made from both keys, slots, key_words and serial; a read or write under a
+ * made from both keys, slots, key_class and serial; a read or write under a
  * pair with another mark is refused, OTHER_KEYS, before anything is opened. It
  * has 48 bits: another pair can have the same one by chance.
  *
@@ -260,7 +284,7 @@ static inline uint64_t captions_panel_blocks(size_t panel_len)
  * edition 1 have used 0.
  * Refusals: WRONG_KEY, TWIN_KEYS, WRONG_SPAN, OTHER_KEY_CLASS. */
 captions_answer captions_blank(uint8_t *sheet, size_t sheet_len,
-                               size_t slots, size_t key_words,
+                               size_t slots, size_t key_class,
                                uint16_t serial,
                                const uint8_t *sealing_key, size_t sealing_len,
                                const uint8_t *checking_key,

@@ -3,10 +3,11 @@
 
 use crate::baseline::{self, Looped, SameIdeas, Style};
 use crate::dates::{self, Conversions};
+use crate::present;
 use differential::random::Random;
 use differential::sheets::{
-    caption_length, fit_sheet, kinds, near_sheet, set_last_number, some_caption, Keys, CLASSES,
-    FAULTS, FIELD,
+    caption_length, fit_sheet, key_bytes, kinds, near_sheet, set_last_number, some_caption, Keys,
+    CLASSES, FAULTS, FIELD, MCRYPTON,
 };
 use differential::terms::{day_near, some_terms, FAR_DAYS};
 use reference::Answer;
@@ -28,7 +29,7 @@ fn check_style<S: Style + Conversions>(random: &mut Random) -> u64 {
 type BlockCall = fn(&[u8], &[u8], &mut [u8]) -> Answer;
 
 /// The baseline's block calls, each with the second program's.
-const BLOCK_CALLS: [(BlockCall, BlockCall); 4] = [
+const BLOCK_CALLS: [(BlockCall, BlockCall); 6] = [
     (baseline::encrypt_block::<Looped>, reference::encrypt_block),
     (baseline::decrypt_block::<Looped>, reference::decrypt_block),
     (
@@ -39,6 +40,8 @@ const BLOCK_CALLS: [(BlockCall, BlockCall); 4] = [
         baseline::decrypt_block::<SameIdeas>,
         reference::decrypt_block,
     ),
+    (present::encrypt_block, reference::present_encrypt_block),
+    (present::decrypt_block, reference::present_decrypt_block),
 ];
 
 fn blocks(random: &mut Random) -> u64 {
@@ -54,9 +57,9 @@ fn blocks(random: &mut Random) -> u64 {
             compared += 1;
         }
     };
-    for t in CLASSES {
+    for bytes in [8, 10, 12, 16] {
         for _ in 0..5_000 {
-            compare(&random.bytes(2 * t), &random.block(), &[0; 8]);
+            compare(&random.bytes(bytes), &random.block(), &[0; 8]);
         }
     }
     for key in 0..=18 {
@@ -69,7 +72,7 @@ fn blocks(random: &mut Random) -> u64 {
 
 fn cmacs<S: Style>(random: &mut Random) -> u64 {
     let mut compared = 0;
-    for t in CLASSES {
+    for t in MCRYPTON {
         for length in (0..=210).chain([65_536]) {
             let (key, message) = (random.bytes(2 * t), random.bytes(length));
             let mut outs = [[0; 8]; 2];
@@ -100,7 +103,8 @@ fn panels<S: Style>(random: &mut Random) -> u64 {
     compared
 }
 
-/// Lists of calls, each answer and every byte compared; some sheets wear out.
+/// Lists of calls, each answer and every byte compared; some sheets wear out. Those of
+/// PRESENT are shorter: the second program takes long with it.
 fn sheets<S: Style>(random: &mut Random) -> u64 {
     let mut compared = 0;
     for (edition, t) in kinds() {
@@ -109,7 +113,8 @@ fn sheets<S: Style>(random: &mut Random) -> u64 {
             let mut blank = keys.blank_sheet(edition, n, t);
             set_last_number(&mut blank, random.pick(&[0, u32::MAX - 20]));
             let mut sheets = [blank.clone(), blank];
-            for _ in 0..150 {
+            let calls = if MCRYPTON.contains(&t) { 150 } else { 40 };
+            for _ in 0..calls {
                 let slot = random.below(n + 1);
                 let length = caption_length(random) + random.pick(&[0, 0, 0, 193]);
                 let caption = some_caption(random, length);
@@ -158,7 +163,7 @@ fn compare_dated_reads<S: Style>(random: &mut Random, own: &Keys, sheet: &[u8], 
     let t = random.pick(&CLASSES);
     let keys = match random.below(12) {
         0 => &Keys::unlike(random, t),
-        1 => &Keys::twins(random, 2 * t),
+        1 => &Keys::twins(random, key_bytes(t)),
         _ => own,
     };
     let terms = some_terms(random, n);

@@ -11,13 +11,17 @@
 //! A read, a dated read and a write test the key mark of edition 3 as the library
 //! does, and a write tests its caption, here by Rust's own `from_utf8`, so that what is
 //! compared does the same.
+//!
+//! Sheets of classes 21 and 24 go by PRESENT (`present.rs`), in either style alike.
 
+use crate::present::{Eighty, Present, Wide};
 use reference::{
     Answer, ALTERED, BLANK, BROKEN_TEXT, NOT_ON_SHOW, NO_SUCH_DATE, NO_SUCH_SLOT, OTHER_KEYS,
     OTHER_KEY_CLASS, OVERLONG, TWIN_KEYS, UNFIT_SHEET, WORN, WRONG_KEY, WRONG_SPAN,
 };
 use std::array::from_fn;
 use std::hint::black_box;
+use std::marker::PhantomData;
 use std::str::from_utf8;
 
 type Words = [u16; 4];
@@ -287,7 +291,7 @@ macro_rules! unrolled {
 }
 
 /// How the rounds and the blocks are gone through.
-pub trait Style {
+pub trait Style: Copy {
     fn encrypt<R: Register>(key: R, block: u64) -> u64;
     fn decrypt<R: Register>(key: R, block: u64) -> u64;
     /// CBC of a field, from the block that its first is chained to.
@@ -298,7 +302,9 @@ pub trait Style {
     fn lengths_fit(rest: u32) -> bool;
 }
 
+#[derive(Clone, Copy)]
 pub struct Looped;
+#[derive(Clone, Copy)]
 pub struct SameIdeas;
 
 impl Style for Looped {
@@ -448,10 +454,54 @@ fn add(block: &[u8], key_block: u64, out: &mut [u8]) {
 
 /// The number of a block's 8 bytes.
 #[inline(always)]
-fn load(bytes: &[u8]) -> u64 {
+pub fn load(bytes: &[u8]) -> u64 {
     bytes
         .first_chunk()
         .map_or(0, |block| u64::from_be_bytes(*block))
+}
+
+/// What a sheet asks of a cipher with a key in it.
+pub trait Cipher: Copy {
+    fn of_key(key: &[u8]) -> Self;
+    fn encrypt(self, block: u64) -> u64;
+    /// CBC of a field, from the block that its first is chained to.
+    fn decrypt_field(self, before: u64, field: &[u8], window: &mut [u8]);
+}
+
+/// mCrypton in a style.
+#[derive(Clone, Copy)]
+struct MCrypton<S, R>(R, PhantomData<S>);
+
+impl<S: Style, R: Register> Cipher for MCrypton<S, R> {
+    #[inline(always)]
+    fn of_key(key: &[u8]) -> MCrypton<S, R> {
+        MCrypton(R::of_key(key), PhantomData)
+    }
+
+    #[inline(always)]
+    fn encrypt(self, block: u64) -> u64 {
+        S::encrypt(self.0, block)
+    }
+
+    #[inline(always)]
+    fn decrypt_field(self, before: u64, field: &[u8], window: &mut [u8]) {
+        S::decrypt_field(self.0, before, field, window);
+    }
+}
+
+/// One of the five instances of a function over ciphers, by a sheet's class; else
+/// another value.
+macro_rules! by_class {
+    ($style:ident, $t:expr, $function:ident($($argument:expr),*), $none:expr) => {
+        match $t {
+            4 => $function::<MCrypton<$style, Four>>($($argument),*),
+            6 => $function::<MCrypton<$style, Six>>($($argument),*),
+            8 => $function::<MCrypton<$style, Eight>>($($argument),*),
+            21 => $function::<Present<Eighty>>($($argument),*),
+            24 => $function::<Present<Wide>>($($argument),*),
+            _ => $none,
+        }
+    };
 }
 
 /// One of the three instances of a function over registers, by the key's
@@ -497,12 +547,12 @@ fn doubled(x: u64) -> u64 {
 
 /// CMAC of a message, `c` being the chain before it.
 #[inline(always)]
-fn cmac_from<S: Style, R: Register>(key: R, mut c: u64, message: &[u8]) -> u64 {
-    let k1 = doubled(S::encrypt(key, 0));
+fn cmac_from<C: Cipher>(key: C, mut c: u64, message: &[u8]) -> u64 {
+    let k1 = doubled(key.encrypt(0));
     // The last block has 1 to 8 bytes; only that of the empty message has 0.
     let (front, last) = message.split_at(message.len().saturating_sub(1) / 8 * 8);
     for block in front.chunks_exact(8) {
-        c = S::encrypt(key, c ^ load(block));
+        c = key.encrypt(c ^ load(block));
     }
     let m_n = if last.len() == 8 {
         k1 ^ load(last)
@@ -512,7 +562,7 @@ fn cmac_from<S: Style, R: Register>(key: R, mut c: u64, message: &[u8]) -> u64 {
         padded[last.len()] = 0x80;
         doubled(k1) ^ u64::from_be_bytes(padded)
     };
-    S::encrypt(key, c ^ m_n)
+    key.encrypt(c ^ m_n)
 }
 
 pub fn cmac<S: Style>(key: &[u8], message: &[u8], out: &mut [u8]) -> Answer {
@@ -520,7 +570,7 @@ pub fn cmac<S: Style>(key: &[u8], message: &[u8], out: &mut [u8]) -> Answer {
         if out.len() != 8 {
             return Answer::refused(WRONG_SPAN);
         }
-        let mac = cmac_from::<S, R>(R::of_key(key), 0, message);
+        let mac = cmac_from(MCrypton::<S, R>::of_key(key), 0, message);
         out.copy_from_slice(&mac.to_be_bytes());
         Answer::accepted(0)
     }
@@ -562,7 +612,7 @@ pub fn panel<S: Style>(key: &[u8], first: u64, panel: &[u8], out: &mut [u8]) -> 
 
 // ---- The sheet ----
 
-const FIELD: usize = 192;
+pub const FIELD: usize = 192;
 
 /// The sizes of a fit sheet, its last write number, and what its edition adds.
 struct Header {
@@ -632,7 +682,9 @@ fn fit_header<S: Style>(sheet: &[u8]) -> Option<Header> {
     let w = u32::from_be_bytes([head[4], head[5], head[6], head[7]]);
     let edition = edition(sheet)?;
     let length = edition.bytes + 208 * n;
-    let sized = (1..=256).contains(&n) && matches!(t, 4 | 6 | 8) && sheet.len() == length;
+    let present = edition.key_mark.is_some() && matches!(t, 21 | 24);
+    let class = matches!(t, 4 | 6 | 8) || present;
+    let sized = (1..=256).contains(&n) && class && sheet.len() == length;
     if !sized {
         return None;
     }
@@ -673,7 +725,7 @@ pub fn clear<S: Style>(sheet: &mut [u8], slot: usize) -> Answer {
 
 /// Tests 1 and 2.
 fn key_fault(sealing_key: &[u8], checking_key: &[u8]) -> Option<u8> {
-    if !matches!(sealing_key.len(), 8 | 12 | 16) || checking_key.len() != sealing_key.len() {
+    if !matches!(sealing_key.len(), 8 | 10 | 12 | 16) || checking_key.len() != sealing_key.len() {
         Some(WRONG_KEY)
     } else if sealing_key == checking_key {
         Some(TWIN_KEYS)
@@ -690,8 +742,8 @@ fn numbers(write_number: u32, slot: usize, last: u16) -> u64 {
 
 /// The check: CMAC of the numbers and the field, 25 blocks.
 #[inline(always)]
-fn check<S: Style, R: Register>(key: R, numbers: u64, field: &[u8]) -> u64 {
-    cmac_from::<S, R>(key, S::encrypt(key, numbers), field)
+fn check<C: Cipher>(key: C, numbers: u64, field: &[u8]) -> u64 {
+    cmac_from(key, key.encrypt(numbers), field)
 }
 
 pub fn write<S: Style>(
@@ -731,16 +783,16 @@ pub fn write<S: Style>(
     plain[..caption.len()].copy_from_slice(caption);
     let length = caption.len() as u16;
     let place = (write_number, slot, length);
-    by_key_length!(
+    by_class!(
         S,
-        sealing_key.len(),
+        header.t,
         put_slot(keys, place, header.edition.serial, &plain, mark, field),
         ()
     );
     Answer::accepted(0)
 }
 
-fn put_slot<S: Style, R: Register>(
+fn put_slot<C: Cipher>(
     (sealing_key, checking_key): (&[u8], &[u8]),
     (write_number, slot, length): (u32, usize, u16),
     serial: u16,
@@ -748,14 +800,14 @@ fn put_slot<S: Style, R: Register>(
     mark: &mut [u8],
     field: &mut [u8],
 ) {
-    let key = R::of_key(sealing_key);
-    let mut chain = S::encrypt(key, numbers(write_number, slot, serial));
+    let key = C::of_key(sealing_key);
+    let mut chain = key.encrypt(numbers(write_number, slot, serial));
     for (block, out) in plain.chunks_exact(8).zip(field.chunks_exact_mut(8)) {
-        chain = S::encrypt(key, chain ^ load(block));
+        chain = key.encrypt(chain ^ load(block));
         out.copy_from_slice(&chain.to_be_bytes());
     }
     let checked = numbers(write_number, slot, length);
-    let check = check::<S, R>(R::of_key(checking_key), checked, field);
+    let check = check(C::of_key(checking_key), checked, field);
     mark[0..4].copy_from_slice(&write_number.to_be_bytes());
     mark[4..8].copy_from_slice(&(u32::from(length) << 16).to_be_bytes());
     mark[8..16].copy_from_slice(&check.to_be_bytes());
@@ -783,8 +835,8 @@ pub fn read<S: Style>(
 
 type KeyPair<'a> = (&'a [u8], &'a [u8]);
 
-/// The mark and the field of a slot, and the sheet's serial.
-type Slot<'a> = (&'a [u8], &'a [u8], u16);
+/// The mark and the field of a slot, the sheet's serial and its class.
+type Slot<'a> = (&'a [u8], &'a [u8], u16, usize);
 
 /// Tests 1 to 4 of a read.
 #[inline(always)]
@@ -801,7 +853,12 @@ fn read_header<S: Style>(keys: KeyPair, sheet: &[u8], window: &[u8]) -> Result<H
 /// Test 5.
 #[inline(always)]
 fn class_fits(keys: KeyPair, header: &Header) -> Result<(), u8> {
-    if keys.0.len() != 2 * header.t {
+    let bytes = match header.t {
+        21 => 10,
+        24 => 16,
+        t => 2 * t,
+    };
+    if keys.0.len() != bytes {
         return Err(OTHER_KEY_CLASS);
     }
     Ok(())
@@ -813,7 +870,7 @@ fn mark_fits<S: Style>(keys: KeyPair, header: &Header) -> Result<(), u8> {
     let Some(mark) = header.edition.key_mark else {
         return Ok(());
     };
-    let own = by_key_length!(S, keys.0.len(), own_mark(keys, header), !mark);
+    let own = by_class!(S, header.t, own_mark(keys, header), !mark);
     if own != mark {
         return Err(OTHER_KEYS);
     }
@@ -822,11 +879,11 @@ fn mark_fits<S: Style>(keys: KeyPair, header: &Header) -> Result<(), u8> {
 
 /// The key mark of a pair: of n, t, edition 3, serial and two zero bytes, sealed,
 /// the first six bytes of the CMAC.
-fn own_mark<S: Style, R: Register>((sealing_key, checking_key): KeyPair, header: &Header) -> u64 {
+fn own_mark<C: Cipher>((sealing_key, checking_key): KeyPair, header: &Header) -> u64 {
     let (n, t) = (header.n as u64, header.t as u64);
     let block = n << 48 | t << 40 | 3 << 32 | u64::from(header.edition.serial) << 16;
-    let sealed = S::encrypt(R::of_key(sealing_key), block).to_be_bytes();
-    cmac_from::<S, R>(R::of_key(checking_key), 0, &sealed) >> 16
+    let sealed = C::of_key(sealing_key).encrypt(block).to_be_bytes();
+    cmac_from(C::of_key(checking_key), 0, &sealed) >> 16
 }
 
 /// Tests 6 and 9.
@@ -840,33 +897,33 @@ fn written_slot<'a>(sheet: &'a [u8], header: &Header, slot: usize) -> Result<Slo
         return Err(BLANK);
     }
     let field = &sheet[header.field(slot)..][..FIELD];
-    Ok((mark, field, header.edition.serial))
+    Ok((mark, field, header.edition.serial, header.t))
 }
 
 fn shown_slot<S: Style>(keys: KeyPair, slot: usize, written: Slot, window: &mut [u8]) -> Answer {
-    by_key_length!(
+    by_class!(
         S,
-        keys.0.len(),
+        written.3,
         opened_slot(keys, slot, written, window),
         Answer::refused(WRONG_KEY)
     )
 }
 
-fn opened_slot<S: Style, R: Register>(
+fn opened_slot<C: Cipher>(
     (sealing_key, checking_key): KeyPair,
     slot: usize,
-    (mark, field, serial): Slot,
+    (mark, field, serial, _): Slot,
     window: &mut [u8],
 ) -> Answer {
     let write_number = (load(mark) >> 32) as u32;
     let length = (load(mark) >> 16) as u16;
     let checked = numbers(write_number, slot, length);
-    if check::<S, R>(R::of_key(checking_key), checked, field) != load(&mark[8..]) {
+    if check(C::of_key(checking_key), checked, field) != load(&mark[8..]) {
         return Answer::refused(ALTERED);
     }
-    let key = R::of_key(sealing_key);
-    let before = S::encrypt(key, numbers(write_number, slot, serial));
-    S::decrypt_field(key, before, field, window);
+    let key = C::of_key(sealing_key);
+    let before = key.encrypt(numbers(write_number, slot, serial));
+    key.decrypt_field(before, field, window);
     if !all_zero(&window[usize::from(length)..]) {
         window.fill(0);
         return Answer::refused(ALTERED);

@@ -6,6 +6,7 @@ mod baseline;
 mod dates;
 mod instructions;
 mod meter;
+mod present;
 mod timing;
 
 use baseline::{Looped, SameIdeas};
@@ -13,7 +14,7 @@ use differential::edition::Edition;
 use differential::letters::good_text;
 use differential::library;
 use differential::random::Random;
-use differential::sheets::{set_last_number, Keys, CLASSES, FIELD};
+use differential::sheets::{key_bytes, set_last_number, Keys, FIELD, MCRYPTON};
 use differential::term_sheet::{term_sheet, ALWAYS, LAST_DAY};
 use meter::{figure, Aims, Meter};
 use reference::{Answer, Pointed};
@@ -53,6 +54,8 @@ fn measure(meter: &mut Meter) {
     cmacs(meter, &mut random);
     panels(meter, &mut random);
     sheets(meter, &mut random);
+    present_blocks(meter, &mut random);
+    present_sheets(meter, &mut random);
     texts(meter, &mut random);
     conversions(meter, &mut random);
 }
@@ -68,7 +71,7 @@ Path number 0xffff takes the word path in every round, path number 0 the nibble 
         "Call | Key bits | Library, 0xffff | Baseline | Same ideas in Rust | Ratio | To same ideas | Instructions | Library, 0 | Instructions | Library, 0x0555 | Instructions",
     );
     for (name, calls) in BLOCK_CALLS {
-        for t in CLASSES {
+        for t in MCRYPTON {
             let (key, block) = (random.bytes(2 * t), random.block());
             let row = meter.row(block_calls(calls, &key, &block));
             meter.aim(Aims::Blocks, row.ratio(0, 1));
@@ -154,7 +157,7 @@ The library encrypts here by its path of words alone, as it does in sheets.",
         baseline::cmac::<SameIdeas>,
     ];
     for length in [192, 65_536] {
-        for t in CLASSES {
+        for t in MCRYPTON {
             let (key, message) = (random.bytes(2 * t), random.bytes(length));
             let (key, message) = (&key[..], &message[..]);
             let row = meter.row(Vec::from(calls.map(|call| {
@@ -198,7 +201,7 @@ the same ideas in Rust encrypt up to 32 counter blocks in one walk of the regist
         reference::panel::panel,
     ];
     for length in [8, 192, 4096, 65_536] {
-        for t in CLASSES {
+        for t in MCRYPTON {
             let (key, panel) = (random.bytes(2 * t), random.bytes(length));
             let (key, panel) = (&key[..], &panel[..]);
             let row = meter.row(Vec::from(calls.map(|call| {
@@ -409,6 +412,93 @@ fn clears_of(sheet: &[u8], slot: usize) -> Vec<Timed<'static>> {
         timed(move || clear(black_box(&mut sheet), black_box(slot)))
     })
     .into()
+}
+
+// ---- PRESENT ----
+
+/// The values of byte 2 that mean it.
+const PRESENT: [usize; 2] = [21, 24];
+
+fn present_blocks(meter: &mut Meter, random: &mut Random) {
+    meter.head(
+        "PRESENT, one block: ns for each block",
+        "\
+Beside optimised Rust with the same tables of 256 entries, which are statics there. The
+library's are made anew for each block.",
+        "Call | Key bits | Library | Rust | Ratio | Instructions | Second program",
+    );
+    let calls: [(&str, [BaselineCall; 3]); 2] = [
+        (
+            "encrypt",
+            [
+                library::present_encrypt_block,
+                present::encrypt_block,
+                reference::present_encrypt_block,
+            ],
+        ),
+        (
+            "decrypt",
+            [
+                library::present_decrypt_block,
+                present::decrypt_block,
+                reference::present_decrypt_block,
+            ],
+        ),
+    ];
+    for (name, calls) in calls {
+        for t in PRESENT {
+            let (key, block) = (random.bytes(key_bytes(t)), random.block());
+            let (key, block) = (&key[..], &block[..]);
+            let row = meter.row(Vec::from(calls.map(|call| {
+                let mut out = [0; 8];
+                timed(move || {
+                    let (key, block) = black_box((key, block));
+                    call(key, block, black_box(&mut out))
+                })
+            })));
+            meter.aim(Aims::Present, row.ratio(0, 1));
+            meter.print(&[
+                name,
+                &(8 * key_bytes(t)).to_string(),
+                &figure(row.nanoseconds(0)),
+                &figure(row.nanoseconds(1)),
+                &row.ratio_cell(0, 1),
+                &row.instructions(0, 1),
+                &figure(row.nanoseconds(2)),
+            ]);
+        }
+    }
+}
+
+fn present_sheets(meter: &mut Meter, random: &mut Random) {
+    meter.head(
+        "PRESENT, sheets: µs for each call",
+        "\
+Full sheets of 16 slots of edition 3, as above. Both open the field of a read in one walk.",
+        "Call | Key bits | Library | Rust | Ratio | Instructions | Second program",
+    );
+    let calls: [(&str, SheetCalls); 2] = [("read", reads), ("write, ASCII", ascii_writes)];
+    for (name, calls) in calls {
+        for t in PRESENT {
+            let keys = Keys::unlike(random, t);
+            let mut sheet = keys.blank_sheet(Edition::BLANKED, 16, t);
+            fill(random, &keys, &mut sheet, 16);
+            // The two styles are one here.
+            let mut calls = calls(&keys, &sheet, 16);
+            drop(calls.remove(2));
+            let row = meter.row(calls);
+            meter.aim(Aims::Present, row.ratio(0, 1));
+            meter.print(&[
+                name,
+                &(8 * key_bytes(t)).to_string(),
+                &figure(row.nanoseconds(0) / 1000.0),
+                &figure(row.nanoseconds(1) / 1000.0),
+                &row.ratio_cell(0, 1),
+                &row.instructions(0, 1),
+                &figure(row.nanoseconds(2) / 1000.0),
+            ]);
+        }
+    }
 }
 
 // ---- Texts ----

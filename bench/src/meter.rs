@@ -14,12 +14,13 @@ pub enum Aims {
     Panels,
     Blocks,
     Layout,
+    Present,
     Conversions,
     None,
 }
 
 /// The most that the library is to take of the baseline's time.
-const AIMS: [(Aims, &str, f64); 8] = [
+const AIMS: [(Aims, &str, f64); 9] = [
     (Aims::Reads, "read", 0.70),
     (Aims::DatedReads, "dated read", 0.70),
     (Aims::Writes, "write", 0.85),
@@ -27,6 +28,7 @@ const AIMS: [(Aims, &str, f64); 8] = [
     (Aims::Panels, "panel of 65536 bytes", 0.80),
     (Aims::Blocks, "block calls with 0xffff", 0.95),
     (Aims::Layout, "layout test", 1.00),
+    (Aims::Present, "PRESENT's block, read and write", 1.10),
     (Aims::Conversions, "conversion", 1.00),
 ];
 

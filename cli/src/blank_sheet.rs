@@ -1,45 +1,39 @@
-//! A sheet of blank slots, by which the library also says which slot counts and
-//! which keys there are.
+//! A sheet of blank slots, by which the library also says which slot counts there
+//! are.
 
 use crate::exchange::caption_in;
 use crate::header;
 use crate::keys::Keys;
 use crate::listing::Listing;
-use captions::{sheet_len, Refusal, HEADER, SLOTS};
+use captions::{sheet_len, Class, Refusal, HEADER, SLOTS};
 
-/// A blank sheet that a pair of keys serves. Bits that make no whole 16-bit words
-/// become 0 words, which the library refuses like any other number that isn't 4,
-/// 6 or 8.
+/// A blank sheet that a pair of keys serves.
 pub fn blank_sheet(
     slots: usize,
-    bits: usize,
+    cipher: impl Class,
     serial: u16,
     keys: &Keys,
 ) -> Result<Vec<u8>, Refusal> {
-    let key_words = if bits.is_multiple_of(16) {
-        bits / 16
-    } else {
-        0
-    };
     // One slot more than a sheet can have is enough for the library to refuse.
     let mut sheet = vec![0; sheet_len(slots.min(SLOTS + 1))];
     let Keys { sealing, checking } = keys;
-    captions::blank(&mut sheet, slots, key_words, serial, sealing, checking)?;
+    captions::blank(&mut sheet, slots, cipher, serial, sealing, checking)?;
     Ok(sheet)
 }
 
-/// Whether a sheet that is blanked with this serial under these keys would seal
-/// from starts that the old one there has used: it has the same serial, and
-/// nothing shows that it belongs to other keys.
-pub fn repeats_starts(old: &[u8], serial: u16, keys: &Keys) -> bool {
+/// Whether a sheet that is blanked with this cipher and serial under these keys
+/// would seal from starts that the old one there has used: it has the same cipher
+/// and serial, and nothing shows that it belongs to other keys.
+pub fn repeats_starts(old: &[u8], cipher: impl Class, serial: u16, keys: &Keys) -> bool {
     // Without a serial a sheet seals as one with serial 0 does.
     if header::serial(old).unwrap_or(0) != serial {
         return false;
     }
-    let [high, low, words, edition, ..] = *old else {
+    let [high, low, class, edition, ..] = *old else {
         return false;
     };
-    if 2 * usize::from(words) != keys.sealing.len() {
+    let class = usize::from(class);
+    if class != cipher.number() {
         return false;
     }
     let slots = usize::from(u16::from_be_bytes([high, low]));
@@ -47,7 +41,7 @@ pub fn repeats_starts(old: &[u8], serial: u16, keys: &Keys) -> bool {
         1 | 2 => serves_some_slot(old, keys),
         // Its key mark tells, also where the rest of it is torn off or its edition
         // was changed.
-        _ => match blank_sheet(slots, 16 * usize::from(words), serial, keys) {
+        _ => match blank_sheet(slots, class, serial, keys) {
             Ok(same) => {
                 let end = HEADER.min(old.len());
                 old.get(8..end) == same.get(8..end)
@@ -76,14 +70,5 @@ pub fn any_keys() -> Keys {
     Keys {
         sealing: vec![0; 8],
         checking: vec![1; 8],
-    }
-}
-
-/// The bytes of a key of so many bits, where there are such keys: the library
-/// tests the words before it holds the keys to them.
-pub fn key_bytes(bits: usize) -> Result<usize, Refusal> {
-    match blank_sheet(1, bits, 0, &any_keys()) {
-        Ok(_) | Err(Refusal::OtherKeyClass) => Ok(bits / 8),
-        Err(refusal) => Err(refusal),
     }
 }

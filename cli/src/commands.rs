@@ -1,7 +1,8 @@
 //! What each command does.
 
-use crate::blank_sheet::{blank_sheet, key_bytes, repeats_starts};
+use crate::blank_sheet::{blank_sheet, repeats_starts};
 use crate::caption::{self, Source};
+use crate::cipher::{with_bits, Asked};
 use crate::date;
 use crate::exchange::{self, caption_in, Import};
 use crate::failure::Failure;
@@ -40,7 +41,7 @@ pub fn run(words: &[OsString]) -> Result<(), Failure> {
                 }
                 Failure::Refused(Refusal::OtherKeys, _) => {
                     hint(
-                        "the sheet was blanked with other keys, or its serial or mark was changed",
+                        "the sheet was blanked with other keys, or its cipher, serial or mark was changed",
                     );
                     failure
                 }
@@ -73,8 +74,8 @@ fn run_command(name: &str, words: &Words) -> Result<(), Failure> {
     }
 }
 
-fn blank(file: &Path, slots: &OsStr, bits: &OsStr, words: &Words) -> Result<(), Failure> {
-    let (slots, bits) = (number("SLOTS", slots)?, number("BITS", bits)?);
+fn blank(file: &Path, slots: &OsStr, cipher: &OsStr, words: &Words) -> Result<(), Failure> {
+    let (slots, cipher) = (number("SLOTS", slots)?, Asked::of_word(cipher)?);
     let (serial, wait) = (serial(words.operand(3))?, wait(words)?);
     let keys = Path::new(words.operand(4));
     not_another(("FILE", file), &[("KEYS", keys)])?;
@@ -82,14 +83,14 @@ fn blank(file: &Path, slots: &OsStr, bits: &OsStr, words: &Words) -> Result<(), 
     let given = Given {
         keys: Some(&keys),
         slots: Some(slots),
-        bits: Some(bits),
+        cipher: Some(cipher),
         ..Given::default()
     };
     let sheet =
-        blank_sheet(slots, bits, serial, &keys).map_err(|refusal| given.refused(refusal))?;
+        blank_sheet(slots, cipher, serial, &keys).map_err(|refusal| given.refused(refusal))?;
     let force = words.has("--force");
     sheet_file::create(file, wait, &sheet, force, Kind::Sheet, |old| {
-        let repeats = !words.has("--force-serial") && repeats_starts(old, serial, &keys);
+        let repeats = !words.has("--force-serial") && repeats_starts(old, cipher, serial, &keys);
         repeats.then(|| {
             format!(
                 "the sheet there has serial {serial} already, under these keys: captions would be \
@@ -294,8 +295,8 @@ fn keys(file: &Path, bits: &OsStr, words: &Words) -> Result<(), Failure> {
         bits: Some(bits),
         ..Given::default()
     };
-    let length = key_bytes(bits).map_err(|refusal| given.refused(refusal))?;
-    let keys = Keys::random(length)?;
+    let cipher = with_bits(bits).ok_or_else(|| given.refused(Refusal::WrongKey))?;
+    let keys = Keys::random(cipher.key_bytes())?;
     sheet_file::create_private(file, wait(words)?, keys.text().as_bytes())
 }
 

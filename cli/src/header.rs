@@ -1,5 +1,12 @@
-//! What the first bytes of a sheet say that its listing doesn't: the edition, the
-//! serial and the key mark.
+//! What the first bytes of a sheet say that its listing doesn't: the cipher, the
+//! edition, the serial and the key mark.
+
+use captions::Cipher;
+
+/// The cipher of a sheet that is fit.
+pub fn cipher(sheet: &[u8]) -> Option<Cipher> {
+    Cipher::of_class(*sheet.get(2)?)
+}
 
 /// The edition of a sheet.
 pub fn edition(sheet: &[u8]) -> u8 {

@@ -35,18 +35,21 @@ const WAIT: (&str, &str) = (
 pub const PAGES: [Page; 16] = [
     Page {
         name: "blank",
-        operands: &["FILE", "SLOTS", "BITS", "SERIAL", "KEYS"],
+        operands: &["FILE", "SLOTS", "CIPHER", "SERIAL", "KEYS"],
         options: &[
             ("--force", "blank a FILE that exists, if it is a sheet"),
             ("--force-serial", "take the serial that the sheet there has"),
             WAIT,
         ],
         instead: None,
-        usage: "FILE SLOTS BITS SERIAL KEYS\n[--force] [--force-serial] [--wait SECONDS]",
+        usage: "FILE SLOTS CIPHER SERIAL KEYS\n[--force] [--force-serial] [--wait SECONDS]",
         summary: "make a sheet of blank slots",
         about: "\
-Makes FILE a sheet of SLOTS blank slots, 1 to 256, for the pair in KEYS, keys of
-BITS bits: 64, 96 or 128.
+Makes FILE a sheet of SLOTS blank slots, 1 to 256, for the pair in KEYS, and for
+tags with CIPHER: 64, 96 or 128 is mCrypton with keys of so many bits, and
+present-80 or present-128 is PRESENT. mcrypton-64, mcrypton-96 and mcrypton-128
+are taken too. Keys of 128 bits fit either cipher: the tag's maker says which
+its chips have.
 
 One pair of keys serves a sheet, the pair that it was blanked with. The sheet
 keeps a mark of that pair, six bytes: with keys of another mark nothing is read
@@ -64,8 +67,8 @@ as sheets without a serial do: keys that served one of those have used 0.
 
 A FILE that exists is left alone (exit status 73) unless --force is given: all
 its captions would be lost. Even then it is replaced only if it is empty or a
-sheet, torn or not, by its first bytes. With the serial and the keys of the
-sheet there it isn't replaced either, unless --force-serial is given too.
+sheet, torn or not, by its first bytes. With the cipher, the serial and the keys
+of the sheet there it isn't replaced either, unless --force-serial is given too.
 ",
         statuses: &[1, 2, 3, 5, 65, 66, 73, 75, 79],
     },
@@ -170,11 +173,11 @@ listed as \"unfit\", which is an answer: the exit status is 0. Why it is unfit i
 said on standard error.
 
 With --json it prints an object with the members fit (true or false), slots,
-key, last, edition, serial, key_mark, cipher, reason and list; reason is why a
-sheet is unfit. list has an object for each slot, with the members slot, state
-(\"blank\" or \"written\"), write and length. What a blank slot, an unfit sheet or a
-sheet of an older edition doesn't have is null: edition 1 has no serial, and
-neither 1 nor 2 a key mark.
+key, last, edition, serial, key_mark, cipher (\"mCrypton\" or \"PRESENT\"), reason
+and list; reason is why a sheet is unfit. list has an object for each slot, with
+the members slot, state (\"blank\" or \"written\"), write and length. What a blank
+slot, an unfit sheet or a sheet of an older edition doesn't have is null:
+edition 1 has no serial, and neither 1 nor 2 a key mark.
 ",
         statuses: &[66],
     },
@@ -326,9 +329,10 @@ counts:
         usage: "FILE BITS [--wait SECONDS]",
         summary: "make a pair of keys",
         about: "\
-Makes FILE a new pair of keys of BITS bits, 64, 96 or 128, from the system's
-random source. Only you can read it (mode 0600). A file that exists is never
-overwritten (exit status 73): with its keys the captions would be lost.
+Makes FILE a new pair of keys of BITS bits from the system's random source: 64,
+96 or 128 for mCrypton, 80 or 128 for PRESENT. Only you can read it (mode 0600).
+A file that exists is never overwritten (exit status 73): with its keys the
+captions would be lost.
 ",
         statuses: &[1, 73, 75, 79],
     },
@@ -400,9 +404,9 @@ line (exit status 64): it is nearly always a slip.
         usage: "KEYFILE ROUND ARRAY",
         summary: "find the block that leads to an array",
         about: "\
-For a bench that tests tag chips by watching one round. Prints the one block, 16
-hex digits, that leads to ARRAY after the round ROUND when it is sealed under
-the key in KEYFILE. No other block leads there.
+For a bench that tests mCrypton chips by watching one round. Prints the one
+block, 16 hex digits, that leads to ARRAY after the round ROUND when it is
+sealed under the key in KEYFILE. No other block leads there.
 
 ROUND 0 is after the first key addition, 12 after the last round and before phi,
 the step that ends a sealing. ARRAY has the nibbles of the array row by row, as
@@ -425,9 +429,9 @@ a block has its own.
         summary: "seal or open a wall panel",
         about: "\
 Seals a wall panel of up to 65536 bytes, which needs no sheet, by counter mode
-(CTR) under the key in KEYFILE. It is read from standard input and printed on
-standard output, unless an option names a file. The same command with the same
-KEYFILE and FIRST opens what is sealed.
+(CTR) of mCrypton under the key in KEYFILE. It is read from standard input and
+printed on standard output, unless an option names a file. The same command with
+the same KEYFILE and FIRST opens what is sealed.
 
 The panel's blocks of 8 bytes use the numbers FIRST, FIRST + 1 and so on; after
 18446744073709551615 comes 0. Standard error has the first number that is free
@@ -474,7 +478,7 @@ const STATUSES: [(u8, &str); 23] = [
     (0, "done"),
     (
         1,
-        "wrong key: a key isn't 8, 12 or 16 bytes, or their lengths differ;\nBITS isn't 64, 96 or 128",
+        "wrong key: a key in KEYS isn't 8, 10, 12 or 16 bytes, or their lengths\ndiffer; one in KEYFILE isn't 8, 12 or 16; there is no such CIPHER or BITS",
     ),
     (2, "twin keys: the two keys are equal"),
     (3, "wrong span: SLOTS isn't 1 to 256; ARRAY isn't 8 bytes"),
@@ -484,7 +488,7 @@ const STATUSES: [(u8, &str); 23] = [
     ),
     (
         5,
-        "other key class: the sheet was blanked for keys of another length; to\nblank one, the keys in KEYS aren't of BITS bits",
+        "other key class: the sheet's cipher has keys of another length; to blank\none, CIPHER has",
     ),
     (6, "no such slot: SLOT is the number of slots or more"),
     (
@@ -508,7 +512,7 @@ const STATUSES: [(u8, &str); 23] = [
     (13, "no such round: ROUND is above 12"),
     (
         14,
-        "other keys: the sheet was blanked with other keys than those in KEYS, or\nits serial or mark was changed",
+        "other keys: the sheet was blanked with other keys than those in KEYS, or\nits cipher, serial or mark was changed",
     ),
     (
         15,
@@ -560,14 +564,18 @@ const OPTIONS: [(&str, &str); 3] = [
     ("--", "the words after it are no options"),
 ];
 
-const OPERANDS: [(&str, &str); 12] = [
+const OPERANDS: [(&str, &str); 13] = [
     (
         "FILE",
         "a sheet or a term sheet; - is standard input where it is only read",
     ),
     ("SLOT", "a slot of the sheet, numbered from 0"),
     ("SLOTS", "the number of slots, 1 to 256"),
-    ("BITS", "the length of a key: 64, 96 or 128"),
+    (
+        "CIPHER",
+        "64, 96 or 128: mCrypton with so many bits; present-80 or present-128",
+    ),
+    ("BITS", "the length of a key: 64, 80, 96 or 128"),
     (
         "SERIAL",
         "a number, 0 to 65535: another one for each sheet under the same keys",
@@ -595,13 +603,14 @@ const OPERANDS: [(&str, &str); 12] = [
 
 const NOTES: &str = "
 Keys:
-Two keys of 8, 12 or 16 bytes, of one length and not equal. One pair of keys
-serves a sheet, the pair that it was blanked with. The sheet keeps a mark of it,
-and other keys are refused before anything is opened or written (exit status
-14); only captions clear takes no keys. A sheet of edition 1 or 2, as captions
-made them before 0.5.0, has no mark: nothing stops a write under another pair
-there, and its slot is then as a rule altered to whoever reads with the first. A
-warning is given where the file of keys can be read or written by every user.
+Two keys, not equal, of a length that the sheet's cipher has: 8, 12 or 16 bytes
+for mCrypton, 10 or 16 for PRESENT. One pair of keys serves a sheet, the pair
+that it was blanked with. The sheet keeps a mark of it, and other keys are
+refused before anything is opened or written (exit status 14); only captions
+clear takes no keys. A sheet of edition 1 or 2, as captions made them before
+0.5.0, has no mark: nothing stops a write under another pair there, and its slot
+is then as a rule altered to whoever reads with the first. A warning is given
+where the file of keys can be read or written by every user.
 
 Terms:
 A lender allows a caption only while the loan is on show. A term sheet, a file

@@ -1,7 +1,7 @@
 //! What a file is by its first bytes: a sheet, a term sheet or keys. The library
 //! judges whether it is fit; this is for what is torn, or in another's place.
 
-use captions::{sheet_len, sheet_len_1, terms_len, LAST_DAY, SLOTS};
+use captions::{sheet_len, sheet_len_1, terms_len, Cipher, LAST_DAY, SLOTS};
 
 #[derive(Clone, Copy, Debug, PartialEq, Eq)]
 pub enum Kind {
@@ -49,15 +49,18 @@ fn slots(bytes: &[u8]) -> Option<usize> {
     Some(u16::from_be_bytes(*first).into()).filter(|slots| (1..=SLOTS).contains(slots))
 }
 
-/// Slot count, key words and edition. An edition that there isn't is a changed
-/// byte where the length is a sheet's.
+/// Slot count, cipher and edition. An edition that there isn't, or not with that
+/// cipher, is a changed byte where the length is a sheet's.
 fn begins_as_sheet(bytes: &[u8]) -> bool {
     let Some(slots) = slots(bytes) else {
         return false;
     };
     let has_length = [sheet_len(slots), sheet_len_1(slots)].contains(&bytes.len());
     match bytes {
-        [_, _, 4 | 6 | 8, edition, ..] => (1..=3).contains(edition) || has_length,
+        [_, _, 4 | 6 | 8, 1..=2, ..] => true,
+        [_, _, class, edition, ..] => {
+            Cipher::of_class(*class).is_some() && (*edition == 3 || has_length)
+        }
         _ => false,
     }
 }

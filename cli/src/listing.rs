@@ -5,7 +5,7 @@ use crate::header;
 use crate::hex;
 use crate::keys::Keys;
 use crate::reasons::Given;
-use captions::{Change, Fault, Refusal, FIELD};
+use captions::{Change, Cipher, Fault, Refusal, FIELD};
 
 /// The library's listing, taken apart.
 pub struct Listing {
@@ -93,9 +93,10 @@ fn members(sheet: &[u8], listing: Option<&Listing>) -> String {
     let serial = header::serial(sheet).map_or("null".to_string(), |serial| serial.to_string());
     let mark = header::key_mark(sheet).map(hex::digits_of);
     let mark = in_json(mark.as_deref());
+    let cipher = in_json(header::cipher(sheet).map(Cipher::name));
     let start = format!(r#""fit":true,"slots":{slots},"key":{key},"last":{last}"#);
     let rest = format!(r#""edition":{edition},"serial":{serial},"key_mark":{mark}"#);
-    format!(r#"{start},{rest},"cipher":"mCrypton""#)
+    format!(r#"{start},{rest},"cipher":{cipher}"#)
 }
 
 /// Words as JSON. None of the command's has a character that JSON would escape.

@@ -8,6 +8,7 @@
 mod attributes;
 mod blank_sheet;
 mod caption;
+mod cipher;
 mod commands;
 mod date;
 mod escapes;

@@ -2,7 +2,9 @@
 //! what is allowed.
 
 use crate::caption::MOST_COUNTED;
+use crate::cipher::Asked;
 use crate::failure::Failure;
+use crate::header;
 use crate::keys::Keys;
 use crate::kind::Kind;
 use crate::listing::Listing;
@@ -18,6 +20,7 @@ pub struct Given<'a> {
     pub key: Option<&'a [u8]>,
     pub slot: Option<usize>,
     pub slots: Option<usize>,
+    pub cipher: Option<Asked>,
     pub bits: Option<usize>,
     pub round: Option<usize>,
     pub array: Option<&'a [u8]>,
@@ -60,20 +63,26 @@ impl Given<'_> {
     }
 
     fn wrong_key(&self) -> Option<String> {
-        let allowed = "where there are 8, 12 and 16";
-        if let Some(bits) = self.bits.filter(|bits| ![64, 96, 128].contains(bits)) {
-            return Some(format!("BITS is 64, 96 or 128, not {bits}"));
+        if let Some(bits) = self.bits {
+            return Some(format!("BITS is 64, 80, 96 or 128, not {bits}"));
+        }
+        if let Some(fault) = self.cipher.and_then(Asked::fault) {
+            return Some(fault);
         }
         if let Some(key) = self.key {
-            return Some(format!("a key of {}, {allowed}", bytes(key.len())));
+            let length = bytes(key.len());
+            return Some(format!("a key of {length}, where there are 8, 12 and 16"));
         }
         let Keys { sealing, checking } = self.keys?;
         let (sealing, checking) = (sealing.len(), checking.len());
         Some(match sealing == checking {
-            true => format!("keys of {}, {allowed}", bytes(sealing)),
+            true => format!(
+                "keys of {}, where there are 8, 10, 12 and 16",
+                bytes(sealing)
+            ),
             false => format!(
                 "a sealing key of {} and a checking key of {checking}; \
-                 both have 8, both 12 or both 16",
+                 both have 8, both 10, both 12 or both 16",
                 bytes(sealing)
             ),
         })
@@ -88,14 +97,14 @@ impl Given<'_> {
     }
 
     fn other_class(&self) -> Option<String> {
-        let keys = 8 * self.keys?.sealing.len();
-        Some(match (self.bits, self.sheet.and_then(Listing::of_sheet)) {
-            (Some(bits), _) => format!("keys of {keys} bits, where BITS is {bits}"),
-            (None, sheet) => {
-                let class = sheet?.key;
-                format!("keys of {keys} bits, where the sheet is for keys of {class}")
-            }
-        })
+        let (whose, cipher) = match self.cipher {
+            Some(Asked::Cipher(cipher)) => ("CIPHER", cipher),
+            _ => ("the sheet's cipher", header::cipher(self.sheet?)?),
+        };
+        let (keys, wanted) = (bytes(self.keys?.sealing.len()), cipher.key_bytes());
+        Some(format!(
+            "keys of {keys}, where {whose}, {cipher}, has {wanted}"
+        ))
     }
 
     fn no_such_slot(&self) -> Option<String> {

@@ -6,7 +6,7 @@ use crate::blank_sheet::{any_keys, blank_sheet};
 use crate::keys::Keys;
 use crate::listing::{in_json, with_list};
 use crate::reasons;
-use captions::{date_of_day, Date, Fault, Refusal, FIELD, LAST_DAY};
+use captions::{date_of_day, Cipher, Date, Fault, Refusal, FIELD, LAST_DAY};
 
 /// When a slot is on show.
 #[derive(Clone, Copy)]
@@ -35,7 +35,7 @@ impl Term {
 /// A term sheet in which no slot is ever on show.
 pub fn blank(slots: usize) -> Result<Vec<u8>, Refusal> {
     // The library says how many slots there can be.
-    blank_sheet(slots, 64, 0, &any_keys())?;
+    blank_sheet(slots, Cipher::Mcrypton64, 0, &any_keys())?;
     let mut numbers = vec![u16::try_from(slots).unwrap_or_default()];
     numbers.extend(vec![Term::NEVER.opening; slots]);
     numbers.extend(vec![Term::NEVER.closing; slots]);
@@ -119,7 +119,7 @@ fn numbers(sheet: &[u8]) -> impl Iterator<Item = u16> + Clone + '_ {
 fn slots_with(sheet: &[u8], slot: usize) -> Result<usize, Refusal> {
     let slots = numbers(sheet).next().map_or(0, usize::from);
     let (keys, mut window) = (any_keys(), [0; FIELD]);
-    let blank = blank_sheet(slots, 64, 0, &keys);
+    let blank = blank_sheet(slots, Cipher::Mcrypton64, 0, &keys);
     let blank = blank.map_err(|_| Refusal::UnfitSheet(Fault::Terms))?;
     let Keys { sealing, checking } = &keys;
     match captions::dated_read(sealing, checking, &blank, sheet, slot, 0, &mut window) {

@@ -23,7 +23,7 @@ WORDS = ("accepted", "wrong key", "twin keys", "wrong span", "unfit sheet", "oth
          "no such slot", "overlong", "worn", "blank", "altered", "no such date", "not on show",
          "no such round", "other keys", "broken text")
 RULE_WORDS = ("no rule", "fewer than 8 bytes", "not 1 to 256 slots (bytes 0 and 1)",
-              "not 4, 6 or 8 key words (byte 2)", "not edition 1, 2 or 3 (byte 3)",
+              "not a key class of its edition (byte 2)", "not edition 1, 2 or 3 (byte 3)",
               "a byte of the header that is not zero", "another length than so many slots have",
               "no write number, or one above the sheet's last", "a length above 192",
               "a byte of its mark that is not zero", "the check differs",

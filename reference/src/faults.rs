@@ -1,5 +1,5 @@
 //! The faults that a refusal points to, and the first fault of a sheet
-//! (document 02, request 5).
+//! (document 02, requests 5 and 10).
 
 use crate::sheet::{all_zero, number, Edition};
 use crate::{
@@ -16,7 +16,7 @@ pub enum Fault {
     Short,
     /// n isn't 1 to 256.
     SlotCount,
-    /// Byte 2 isn't 4, 6 or 8.
+    /// Byte 2 isn't 4, 6 or 8, nor in edition 3 21 or 24.
     KeyClass,
     /// Byte 3 is no edition's.
     Edition,
@@ -97,7 +97,7 @@ struct Slots {
 fn header_rules(sheet: &[u8]) -> Result<Slots, Fault> {
     let n = number(&sheet[0..2]) as usize;
     refuse_if(!(1..=256).contains(&n), Fault::SlotCount)?;
-    refuse_if(![4, 6, 8].contains(&sheet[2]), Fault::KeyClass)?;
+    refuse_if(!classes(sheet[3]).contains(&sheet[2]), Fault::KeyClass)?;
     let edition = Edition::of_number(sheet[3]).ok_or(Fault::Edition)?;
     let w = number(&sheet[4..8]);
     // A byte that a short sheet lacks breaks only the last rule.
@@ -107,6 +107,14 @@ fn header_rules(sheet: &[u8]) -> Result<Slots, Fault> {
     }
     refuse_if(sheet.len() != edition.sheet_length(n), Fault::Length)?;
     Ok(Slots { n, edition, w })
+}
+
+/// The values of byte 2 under a byte 3, be that an edition's or not.
+fn classes(byte_3: u8) -> &'static [u8] {
+    match byte_3 {
+        3 => &[4, 6, 8, 21, 24],
+        _ => &[4, 6, 8],
+    }
 }
 
 /// The header's zero bytes; editions 1 and 3 have none.

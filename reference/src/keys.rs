@@ -1,42 +1,51 @@
 //! A pair of keys, its tests, and the key mark of an edition 3 sheet (document
-//! 01, "What the kiosk shows instead of a caption"; document 02, request 7).
+//! 01, "What the kiosk shows instead of a caption"; document 02, requests 7 and
+//! 10).
 
-use crate::cipher::{encrypt, Block, Register};
-use crate::modes::cmac_with;
-use crate::sheet::{fit_header, is_key_class, is_slot_count, Edition, Header};
+use crate::cipher::Block;
+use crate::class::SheetCipher;
+use crate::sheet::{fit_header, is_slot_count, Edition, Header};
 use crate::{refuse_if, OTHER_KEYS, OTHER_KEY_CLASS, TWIN_KEYS, UNFIT_SHEET, WRONG_KEY};
 
 /// The six bytes by which an edition 3 sheet knows its pair.
 pub type KeyMark = [u8; 6];
 
-/// A sealing and a checking key that meet neither 1 nor 2.
+/// A sealing and a checking key that meet neither 1 nor 2. What ciphers they are
+/// keys of, only a sheet's class says.
+#[derive(Clone, Copy)]
+pub(crate) struct Keys<'a> {
+    sealing: &'a [u8],
+    checking: &'a [u8],
+}
+
+impl<'a> Keys<'a> {
+    /// Tests 1 and 2. Test 1 knows no class: it takes the key bytes of any.
+    pub(crate) fn tested(sealing: &'a [u8], checking: &'a [u8]) -> Result<Keys<'a>, u8> {
+        let is_key = [8, 10, 12, 16].contains(&sealing.len());
+        refuse_if(!is_key, WRONG_KEY)?;
+        refuse_if(sealing.len() != checking.len(), WRONG_KEY)?;
+        refuse_if(sealing == checking, TWIN_KEYS)?;
+        Ok(Keys { sealing, checking })
+    }
+
+    /// Test 5: the key bytes are the class's, and the keys go into its cipher.
+    pub(crate) fn tested_class(self, t: usize) -> Result<Pair, u8> {
+        let cipher = |key| SheetCipher::of_class(t, key).ok_or(OTHER_KEY_CLASS);
+        Ok(Pair {
+            sealing: cipher(self.sealing)?,
+            checking: cipher(self.checking)?,
+        })
+    }
+}
+
+/// The two ciphers of a pair on sheets of a class that it fits.
 #[derive(Clone, Copy)]
 pub(crate) struct Pair {
-    pub(crate) sealing: Register,
-    pub(crate) checking: Register,
-    /// The key bytes, of either key.
-    bytes: usize,
+    pub(crate) sealing: SheetCipher,
+    pub(crate) checking: SheetCipher,
 }
 
 impl Pair {
-    /// Tests 1 and 2.
-    pub(crate) fn tested(sealing_key: &[u8], checking_key: &[u8]) -> Result<Pair, u8> {
-        let sealing = Register::of_key(sealing_key).ok_or(WRONG_KEY)?;
-        let checking = Register::of_key(checking_key).ok_or(WRONG_KEY)?;
-        refuse_if(sealing_key.len() != checking_key.len(), WRONG_KEY)?;
-        refuse_if(sealing_key == checking_key, TWIN_KEYS)?;
-        Ok(Pair {
-            sealing,
-            checking,
-            bytes: sealing_key.len(),
-        })
-    }
-
-    /// Test 5, for t of 4, 6 or 8: the key bytes are 2 × t.
-    pub(crate) fn test_class(&self, t: usize) -> Result<(), u8> {
-        refuse_if(self.bytes != 2 * t, OTHER_KEY_CLASS)
-    }
-
     /// Test 14, for a sheet that fits: where it has a key mark, it is this
     /// pair's.
     pub(crate) fn test_mark(&self, header: &Header) -> Result<(), u8> {
@@ -47,8 +56,8 @@ impl Pair {
 
     /// The first six bytes of the checking key's CMAC of the sealed block.
     pub(crate) fn mark(&self, n: usize, t: usize, serial: [u8; 2]) -> KeyMark {
-        let sealed = encrypt(self.sealing, mark_block(n, t, serial));
-        let mac = cmac_with(&|block| encrypt(self.checking, block), &sealed);
+        let sealed = self.sealing.encrypt(mark_block(n, t, serial));
+        let mac = self.checking.cmac(&sealed);
         std::array::from_fn(|i| mac[i])
     }
 }
@@ -70,9 +79,9 @@ pub fn key_mark(
     sealing_key: &[u8],
     checking_key: &[u8],
 ) -> Option<KeyMark> {
-    let pair = Pair::tested(sealing_key, checking_key).ok()?;
-    let fits = is_slot_count(n) && is_key_class(t) && pair.test_class(t).is_ok();
-    fits.then(|| pair.mark(n, t, serial.to_be_bytes()))
+    let keys = Keys::tested(sealing_key, checking_key).ok()?;
+    let pair = keys.tested_class(t).ok()?;
+    is_slot_count(n).then(|| pair.mark(n, t, serial.to_be_bytes()))
 }
 
 /// The first of 1, 2, 5 and 14 that a pair meets with a sheet that fits; 0 if
@@ -84,8 +93,7 @@ pub fn key_refusal(sealing_key: &[u8], checking_key: &[u8], sheet: &[u8]) -> u8 
 }
 
 fn tested_pair(sealing_key: &[u8], checking_key: &[u8], sheet: &[u8]) -> Result<(), u8> {
-    let pair = Pair::tested(sealing_key, checking_key)?;
+    let keys = Keys::tested(sealing_key, checking_key)?;
     let header = fit_header(sheet).ok_or(UNFIT_SHEET)?;
-    pair.test_class(header.t)?;
-    pair.test_mark(&header)
+    keys.tested_class(header.t)?.test_mark(&header)
 }

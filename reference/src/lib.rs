@@ -1,9 +1,10 @@
 //! Second program for mCrypton caption sheets.
 //!
 //! It is written from documents 01 (the scope) and 02 (the change requests, of
-//! them requests 1 to 9), document 000 (the mCrypton paper), the NIST standards
-//! SP 800-38A (CBC, CTR) and SP 800-38B (CMAC) and RFC 3629 (UTF-8) alone, to be
-//! read beside them and compared with, not to be fast.
+//! them requests 1 to 10), document 000 (the mCrypton paper), the PRESENT paper
+//! (CHES 2007) and ISO/IEC 29192-2, the NIST standards SP 800-38A (CBC, CTR) and
+//! SP 800-38B (CMAC) and RFC 3629 (UTF-8) alone, to be read beside them and
+//! compared with, not to be fast.
 //!
 //! Every public function is total: it takes slices of any length and numbers
 //! of any size, and never panics.
@@ -14,11 +15,13 @@ pub mod bench;
 pub mod book;
 pub mod calendar;
 pub mod cipher;
+pub mod class;
 pub mod faults;
 pub mod keys;
 pub mod listing;
 pub mod modes;
 pub mod panel;
+pub mod present;
 pub mod sheet;
 pub mod terms;
 pub mod text;
@@ -28,11 +31,13 @@ pub use bench::{array_after, bench_block};
 pub use book::Book;
 pub use calendar::{date_of_day, day_of_date, DateAnswer, DayAnswer};
 pub use cipher::{decrypt_block, encrypt_block};
+pub use class::{key_bytes, SheetCipher};
 pub use faults::{first_fault, Fault};
 pub use keys::{key_mark, key_refusal};
 pub use listing::listing;
 pub use modes::cmac;
 pub use panel::{panel, panel_blocks};
+pub use present::{decrypt_block as present_decrypt_block, encrypt_block as present_encrypt_block};
 pub use sheet::{blank, clear, fit, read, store_field, write};
 pub use terms::{dated_read, terms_fit};
 pub use text::{breaks_at, well_formed};
@@ -137,7 +142,8 @@ impl From<u8> for Refusal {
     }
 }
 
-/// A key isn't 8, 12 or 16 bytes, or the two lengths differ; blanking: t isn't 4, 6 or 8.
+/// A key isn't 8, 12 or 16 bytes (on sheets 10 too; PRESENT's block calls: isn't
+/// 10 or 16), or the two lengths differ; blanking: t isn't 4, 6, 8, 21 or 24.
 pub const WRONG_KEY: u8 = 1;
 /// Sealing and checking key are equal (read, write, blanking).
 pub const TWIN_KEYS: u8 = 2;
@@ -147,7 +153,7 @@ pub const WRONG_SPAN: u8 = 3;
 /// The sheet is shorter than its header or breaks a rule of the layout; the
 /// term sheet has another n, another length or a day above 36524.
 pub const UNFIT_SHEET: u8 = 4;
-/// The key bytes aren't 2 × t.
+/// The key bytes aren't 2 × t, for t of 21 and 24 aren't 10 and 16.
 pub const OTHER_KEY_CLASS: u8 = 5;
 /// The slot is n or more.
 pub const NO_SUCH_SLOT: u8 = 6;
@@ -176,7 +182,7 @@ pub const RULE_NONE: u8 = 0;
 pub const RULE_SHORT: u8 = 1;
 /// n isn't 1 to 256.
 pub const RULE_SLOT_COUNT: u8 = 2;
-/// Byte 2 isn't 4, 6 or 8.
+/// Byte 2 isn't 4, 6 or 8, nor in edition 3 21 or 24.
 pub const RULE_KEY_CLASS: u8 = 3;
 /// Byte 3 is no edition's.
 pub const RULE_EDITION: u8 = 4;

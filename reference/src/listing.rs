@@ -1,5 +1,6 @@
-//! The listing (document 01, after cases A to M; document 02, request 3).
+//! The listing (document 01, after cases A to M; document 02, requests 3 and 10).
 
+use crate::class::key_bytes;
 use crate::sheet::{fit_header, mark_of, Edition, Header, MOST_SLOTS};
 
 /// The most bytes a sheet has: 256 slots of edition 2 or 3, 53264 bytes.
@@ -19,7 +20,7 @@ pub(crate) fn text(sheet: &[u8]) -> String {
     let Some(header) = fit_header(sheet) else {
         return "unfit\n".to_string();
     };
-    let key_bits = 16 * header.t;
+    let key_bits = key_bytes(header.t).map_or(0, |bytes| 8 * bytes);
     let mut text = format!("slots {} key {} last {}\n", header.n, key_bits, header.w);
     for slot in 0..header.n {
         text += &slot_line(sheet, &header, slot);

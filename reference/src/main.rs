@@ -11,7 +11,8 @@ use std::io::{self, stderr, stdin, stdout, Error, Read, Write};
 use std::process::ExitCode;
 
 const USAGE: &str = "\
-usage: reference vectors blocks|keys|bench|cmac|steps|cbc|panel|marks|sheet|faults|texts
+usage: reference vectors blocks|present|keys|bench|cmac|steps|cbc|panel|marks
+       reference vectors sheet|faults|dated|classes|texts
        reference rounds KEY BLOCK
        reference dates
        reference list < sheet
@@ -76,6 +77,7 @@ fn main() -> ExitCode {
 fn run(words: &[&str]) -> Ended {
     let text = match words {
         ["vectors", "blocks"] => vectors::blocks(),
+        ["vectors", "present"] => vectors::present(),
         ["vectors", "keys"] => vectors::keys(),
         ["vectors", "bench"] => vectors::bench(),
         ["vectors", "cmac"] => vectors::cmacs(),
@@ -85,6 +87,8 @@ fn run(words: &[&str]) -> Ended {
         ["vectors", "marks"] => vectors::marks(),
         ["vectors", "sheet"] => vectors::sheet(),
         ["vectors", "faults"] => vectors::faults(),
+        ["vectors", "dated"] => vectors::dated(),
+        ["vectors", "classes"] => vectors::classes(),
         ["vectors", "texts"] => vectors::texts(),
         ["rounds", key, block] => vectors::rounds(key, block).ok_or(Failure::Usage)?,
         ["dates"] => calendar::all_dates(),

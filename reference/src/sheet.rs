@@ -1,11 +1,12 @@
 //! The sheet: layout, blanking, writing, clearing, reading (document 01, "The
 //! sheet" and "What the kiosk shows instead of a caption"; document 02, requests
-//! 3, 5, 7 and 9).
+//! 3, 5, 7, 9 and 10).
 
-use crate::cipher::{decrypt, encrypt, Block, Register};
+use crate::cipher::Block;
+use crate::class::{key_bytes, SheetCipher};
 use crate::faults::{first_fault, Fault};
-use crate::keys::{KeyMark, Pair};
-use crate::modes::{cbc_decrypt, cbc_encrypt, cmac_with};
+use crate::keys::{KeyMark, Keys, Pair};
+use crate::modes::{cbc_decrypt, cbc_encrypt};
 use crate::text::well_formed;
 use crate::{
     refuse_if, Answer, Pointed, Refusal, BLANK, BROKEN_TEXT, NO_SUCH_SLOT, OVERLONG, UNFIT_SHEET,
@@ -49,6 +50,14 @@ impl Edition {
             Edition::One => 1,
             Edition::Two => 2,
             Edition::Three => 3,
+        }
+    }
+
+    /// Whether byte 2 may be t: 4, 6 or 8, in edition 3 also 21 or 24.
+    fn has_class(self, t: usize) -> bool {
+        match self {
+            Edition::One | Edition::Two => [4, 6, 8].contains(&t),
+            Edition::Three => is_key_class(t),
         }
     }
 
@@ -175,9 +184,9 @@ impl Mark {
 
 // ---- The layout ----
 
-/// Whether t is 4, 6 or 8.
-pub(crate) fn is_key_class(t: usize) -> bool {
-    t == 4 || t == 6 || t == 8
+/// Whether t is 4, 6, 8, 21 or 24.
+fn is_key_class(t: usize) -> bool {
+    key_bytes(t).is_some()
 }
 
 /// Whether n is 1 to 256.
@@ -194,7 +203,7 @@ pub fn fit(sheet: &[u8]) -> bool {
 pub(crate) fn fit_header(sheet: &[u8]) -> Option<Header> {
     let header = Header::of_sheet(sheet)?;
     let fits = is_slot_count(header.n)
-        && is_key_class(header.t)
+        && header.edition.has_class(header.t)
         && header.last_six_fit()
         && sheet.len() == header.sheet_length()
         && (0..header.n).all(|slot| slot_fits(sheet, &header, slot));
@@ -234,11 +243,11 @@ pub(crate) fn mark_of(sheet: &[u8], header: &Header, slot: usize) -> Option<Mark
 
 /// The start block: the sealing key's sealed form of write number, slot and
 /// serial (edition 1: two zero bytes).
-fn start_block(sealing_key: Register, header: &Header, write_number: u32, slot: usize) -> Block {
+fn start_block(sealing: SheetCipher, header: &Header, write_number: u32, slot: usize) -> Block {
     let [a, b, c, d] = write_number.to_be_bytes();
     let [e, f] = (slot as u16).to_be_bytes();
     let [g, h] = header.serial;
-    encrypt(sealing_key, [a, b, c, d, e, f, g, h])
+    sealing.encrypt([a, b, c, d, e, f, g, h])
 }
 
 /// The caption, of at most 192 bytes, followed by zero bytes up to 192.
@@ -247,25 +256,31 @@ fn plain_field(caption: &[u8]) -> [u8; FIELD] {
 }
 
 /// A plain field sealed by CBC.
-fn sealed_field(key: Register, start: Block, plain: &[u8; FIELD]) -> Vec<u8> {
+fn sealed_field(sealing: SheetCipher, start: Block, plain: &[u8; FIELD]) -> Vec<u8> {
     let blocks = plain.as_chunks::<8>().0;
-    cbc_encrypt(&|block| encrypt(key, block), start, blocks).concat()
+    cbc_encrypt(&|block| sealing.encrypt(block), start, blocks).concat()
 }
 
 /// A sealed field opened by CBC.
-fn opened_field(key: Register, start: Block, field: &[u8]) -> Vec<u8> {
+fn opened_field(sealing: SheetCipher, start: Block, field: &[u8]) -> Vec<u8> {
     let blocks = field.as_chunks::<8>().0;
-    cbc_decrypt(&|block| decrypt(key, block), start, blocks).concat()
+    cbc_decrypt(&|block| sealing.decrypt(block), start, blocks).concat()
 }
 
 /// The check: CMAC of write number, slot, length and sealed field, 200 bytes.
-fn check(key: Register, write_number: u32, slot: usize, length: u16, field: &[u8]) -> Block {
+fn check(
+    checking: SheetCipher,
+    write_number: u32,
+    slot: usize,
+    length: u16,
+    field: &[u8],
+) -> Block {
     let mut message = Vec::new();
     message.extend(write_number.to_be_bytes());
     message.extend((slot as u16).to_be_bytes());
     message.extend(length.to_be_bytes());
     message.extend(field);
-    cmac_with(&|block| encrypt(key, block), &message)
+    checking.cmac(&message)
 }
 
 // ---- A test that calls share ----
@@ -310,11 +325,10 @@ fn tested_blanking(
     checking_key: &[u8],
 ) -> Result<Pair, u8> {
     refuse_if(!is_key_class(t), WRONG_KEY)?;
-    let pair = Pair::tested(sealing_key, checking_key)?;
+    let keys = Keys::tested(sealing_key, checking_key)?;
     refuse_if(!is_slot_count(n), WRONG_SPAN)?;
     refuse_if(sheet.len() != Edition::BLANKED.sheet_length(n), WRONG_SPAN)?;
-    pair.test_class(t)?;
-    Ok(pair)
+    keys.tested_class(t)
 }
 
 // ---- Writing ----
@@ -404,9 +418,9 @@ fn tested_place(
     slot: usize,
     length: usize,
 ) -> Result<(Pair, Header), Refusal> {
-    let pair = Pair::tested(sealing_key, checking_key)?;
+    let keys = Keys::tested(sealing_key, checking_key)?;
     let header = tested_header(sheet)?;
-    pair.test_class(header.t)?;
+    let pair = keys.tested_class(header.t)?;
     pair.test_mark(&header)?;
     refuse_if(slot >= header.n, NO_SUCH_SLOT)?;
     refuse_if(length > FIELD, OVERLONG)?;
@@ -500,10 +514,10 @@ fn tested_read(
     slot: usize,
     window: &[u8],
 ) -> Result<Caption, Refusal> {
-    let pair = Pair::tested(sealing_key, checking_key)?;
+    let keys = Keys::tested(sealing_key, checking_key)?;
     refuse_if(window.len() != FIELD, WRONG_SPAN)?;
     let header = tested_header(sheet)?;
-    pair.test_class(header.t)?;
+    let pair = keys.tested_class(header.t)?;
     pair.test_mark(&header)?;
     refuse_if(slot >= header.n, NO_SUCH_SLOT)?;
     let mark = mark_of(sheet, &header, slot).ok_or(BLANK)?;

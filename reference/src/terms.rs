@@ -1,8 +1,8 @@
-//! The term sheet and the dated read (document 02, requests 1, 5 and 7).
+//! The term sheet and the dated read (document 02, requests 1, 5, 7 and 10).
 
 use crate::calendar::LAST_DAY;
 use crate::faults::Fault;
-use crate::keys::Pair;
+use crate::keys::Keys;
 use crate::sheet::{answer_read, mark_of, number, tested_caption, tested_header, Caption, FIELD};
 use crate::{
     refuse_if, Pointed, Refusal, BLANK, NOT_ON_SHOW, NO_SUCH_DATE, NO_SUCH_SLOT, WRONG_SPAN,
@@ -77,11 +77,11 @@ fn tested_dated_read(
     day: usize,
     window: &[u8],
 ) -> Result<Caption, Refusal> {
-    let pair = Pair::tested(sealing_key, checking_key)?;
+    let keys = Keys::tested(sealing_key, checking_key)?;
     refuse_if(window.len() != FIELD, WRONG_SPAN)?;
     let header = tested_header(sheet)?;
     let terms = fit_terms(terms, header.n).ok_or(Refusal::unfit(Some(Fault::Terms)))?;
-    pair.test_class(header.t)?;
+    let pair = keys.tested_class(header.t)?;
     refuse_if(day > LAST_DAY, NO_SUCH_DATE)?;
     pair.test_mark(&header)?;
     refuse_if(slot >= header.n, NO_SUCH_SLOT)?;

@@ -3,15 +3,20 @@
 use crate::bench::{array_after, bench_block};
 use crate::cipher::{decrypt_block, encrypt, encrypt_block, opening_key, sealing_key};
 use crate::cipher::{Block, Register};
+use crate::class::{key_bytes, SheetCipher};
 use crate::keys::mark_block;
 use crate::modes::{cbc_decrypt, cbc_encrypt, cmac, cmac_steps};
 use crate::panel::panel;
+use crate::present;
 use crate::sheet::Edition;
+use crate::terms::dated_read;
 use crate::text::{breaks_at, encode, well_formed};
 use crate::{blank, cipher, clear, key_mark, listing, read, write, Answer, Pointed};
 
-/// The values of t.
+/// The values of t that mean mCrypton.
 const CLASSES: [usize; 3] = [4, 6, 8];
+/// The values of t that mean PRESENT, which edition 3 alone has.
+const PRESENT_CLASSES: [usize; 2] = [21, 24];
 
 /// Byte i is (step × i + start) modulo 256.
 fn ramp(step: usize, start: usize, length: usize) -> Vec<u8> {
@@ -20,9 +25,14 @@ fn ramp(step: usize, start: usize, length: usize) -> Vec<u8> {
         .collect()
 }
 
-/// The key of t words with number s.
+/// The key of a class with number s.
 fn key(t: usize, s: usize) -> Vec<u8> {
-    ramp(29, 71 * s + 13, 2 * t)
+    key_of_length(key_bytes(t).unwrap_or(0), s)
+}
+
+/// The key of a length with number s, be it a wrong one.
+fn key_of_length(length: usize, s: usize) -> Vec<u8> {
+    ramp(29, 71 * s + 13, length)
 }
 
 /// The text of a length with number s.
@@ -83,6 +93,49 @@ pub fn blocks() -> String {
         }
     }
     lines
+}
+
+/// A call on one block: key, block, output.
+type BlockCall = fn(&[u8], &[u8], &mut [u8]) -> Answer;
+
+/// PRESENT's block calls.
+const PRESENT_CALLS: [(&str, BlockCall); 2] = [
+    ("seal", present::encrypt_block),
+    ("open", present::decrypt_block),
+];
+
+/// "seal" or "open", key, block, length of the output, number, the output after
+/// the call, which was ff in every byte before it.
+pub fn present() -> String {
+    let mut lines = String::new();
+    for length in 7..=17 {
+        // Most with the lengths that PRESENT has.
+        let keys = if length == 10 || length == 16 { 32 } else { 2 };
+        for s in 0..keys {
+            let key = key_of_length(length, s);
+            for block in [0, 7, 8, 9, 16].map(|length| text(s, length)) {
+                for out_length in [0, 7, 8, 9, 16] {
+                    for (name, call) in PRESENT_CALLS {
+                        lines += &block_call_line(name, call, &key, &block, out_length);
+                    }
+                }
+            }
+        }
+    }
+    lines
+}
+
+fn block_call_line(
+    name: &str,
+    call: BlockCall,
+    key: &[u8],
+    block: &[u8],
+    out_length: usize,
+) -> String {
+    let mut out = vec![0xff; out_length];
+    let number = call(key, block, &mut out).number;
+    let (key, block, out) = (hex(key), hex_or_dash(block), hex_or_dash(&out));
+    format!("{name} {key} {block} {out_length} {number} {out}\n")
 }
 
 /// t, r, four sealing key words, four opening key words.
@@ -238,7 +291,7 @@ pub fn panel_operands(key: &str, first: &str) -> Option<(Vec<u8>, u64)> {
 /// t, n, serial, sealing key, checking key, sealed block, CMAC of it, key mark.
 pub fn marks() -> String {
     let mut lines = String::new();
-    for t in CLASSES {
+    for t in CLASSES.into_iter().chain(PRESENT_CLASSES) {
         for n in [1, 2, 255, 256] {
             for serial in [0, 1, 256, list_serial(t), 65535] {
                 lines += &mark_line(t, n, serial);
@@ -248,14 +301,15 @@ pub fn marks() -> String {
     lines
 }
 
-/// The values of a key mark, by the calls `encrypt_block`, `cmac` and `key_mark`.
+/// The values of a key mark, with the cipher of the class.
 fn mark_line(t: usize, n: usize, serial: u16) -> String {
     let (sealing, checking) = list_keys(t);
-    let mut sealed = [0; 8];
-    let mut mac = [0; 8];
-    let block = mark_block(n, t, serial.to_be_bytes());
-    encrypt_block(&sealing, &block, &mut sealed);
-    cmac(&checking, &sealed, &mut mac);
+    let cipher = |key: &[u8]| SheetCipher::of_class(t, key);
+    let (Some(sealer), Some(checker)) = (cipher(&sealing), cipher(&checking)) else {
+        return String::new();
+    };
+    let sealed = sealer.encrypt(mark_block(n, t, serial.to_be_bytes()));
+    let mac = checker.cmac(&sealed);
     let mark = key_mark(n, t, serial, &sealing, &checking).unwrap_or_default();
     let values = [&sealing[..], &checking, &sealed, &mac, &mark].map(hex);
     format!("{t} {n} {serial} {}\n", values.join(" "))
@@ -271,14 +325,14 @@ fn list_serial(t: usize) -> u16 {
     0x5a00 + t as u16
 }
 
-/// A list of calls on a sheet of three slots, for each t: on a blanked one,
-/// then on an edition 2 sheet, then on an edition 1 sheet.
+/// A list of calls on a sheet of three slots, for each t of mCrypton: on a blanked
+/// one, then on an edition 2 sheet, then on an edition 1 sheet. Then on a blanked
+/// one for each t of PRESENT.
 pub fn sheet() -> String {
-    CLASSES
-        .map(|t| {
-            on_blanked_sheet(t) + &on_old_sheet(Edition::Two, t) + &on_old_sheet(Edition::One, t)
-        })
-        .concat()
+    let mcrypton = CLASSES.map(|t| {
+        on_blanked_sheet(t) + &on_old_sheet(Edition::Two, t) + &on_old_sheet(Edition::One, t)
+    });
+    mcrypton.concat() + &PRESENT_CLASSES.map(on_blanked_sheet).concat()
 }
 
 /// The list on a blanked sheet.
@@ -386,26 +440,41 @@ fn read_line(sealing_key: &[u8], checking_key: &[u8], sheet: &[u8], slot: usize)
     format!("read {slot} {number} {length} {}\n", hex(&window))
 }
 
-/// Call, number, length, CMAC of the whole sheet under the checking key.
+/// Call, number, length, CMAC of the whole sheet under the checking key. The call
+/// `cmac` is mCrypton's, so of a PRESENT key it gets the first eight bytes.
 fn call_line(call: &str, answer: Answer, checking_key: &[u8], sheet: &[u8]) -> String {
     let mut mac = [0; 8];
-    cmac(checking_key, sheet, &mut mac);
+    let key = match sheet.get(2) {
+        Some(21 | 24) => &checking_key[..8],
+        _ => checking_key,
+    };
+    cmac(key, sheet, &mut mac);
     let Answer { number, length } = answer;
     format!("{call} {number} {length} {}\n", hex(&mac))
+}
+
+/// Every edition with every t it has, PRESENT's last.
+fn kinds() -> Vec<(Edition, usize)> {
+    let editions = [Edition::One, Edition::Two, Edition::Three].into_iter();
+    let mcrypton = editions.flat_map(|edition| CLASSES.map(|t| (edition, t)));
+    let present = PRESENT_CLASSES.map(|t| (Edition::Three, t));
+    mcrypton.chain(present).collect()
 }
 
 /// For each edition and each t a sheet of three slots, then a line for each of
 /// its bits.
 pub fn faults() -> String {
-    let old = |edition| CLASSES.map(|t| flipped_reads(edition, t, old_sheet(edition, t)));
-    let blanked = CLASSES.map(|t| flipped_reads(Edition::BLANKED, t, blanked_sheet(t).1));
-    old(Edition::One).concat() + &old(Edition::Two).concat() + &blanked.concat()
+    let reads = |(edition, t)| flipped_reads(edition, t);
+    kinds().into_iter().map(reads).collect()
 }
 
-/// "sheet", edition, t, sealing key, checking key, the sheet; then byte, bit,
-/// number, rule, slot, place of a read of it with that bit flipped.
-fn flipped_reads(edition: Edition, t: usize, mut sheet: Vec<u8>) -> String {
+/// A sheet of three slots with a short caption, a blank slot and a long caption.
+fn mixed_sheet(edition: Edition, t: usize) -> Vec<u8> {
     let (sealing, checking) = list_keys(t);
+    let mut sheet = match edition {
+        Edition::One | Edition::Two => old_sheet(edition, t),
+        Edition::Three => blanked_sheet(t).1,
+    };
     for (slot, length) in [(0, 5), (1, 17), (2, 192)] {
         write(
             &sealing,
@@ -416,8 +485,22 @@ fn flipped_reads(edition: Edition, t: usize, mut sheet: Vec<u8>) -> String {
         );
     }
     clear(&mut sheet, 1);
-    let mut lines = format!("sheet {} {t}", edition.number());
-    lines += &format!(" {} {} {}\n", hex(&sealing), hex(&checking), hex(&sheet));
+    sheet
+}
+
+/// "sheet", edition, t, sealing key, checking key, the sheet.
+fn sheet_fields(edition: Edition, t: usize, sheet: &[u8]) -> String {
+    let (sealing, checking) = list_keys(t);
+    let bytes = [&sealing, &checking, sheet].map(hex);
+    format!("sheet {} {t} {}", edition.number(), bytes.join(" "))
+}
+
+/// The sheet; then byte, bit, number, rule, slot, place of a read of it with that
+/// bit flipped.
+fn flipped_reads(edition: Edition, t: usize) -> String {
+    let (sealing, checking) = list_keys(t);
+    let sheet = mixed_sheet(edition, t);
+    let mut lines = sheet_fields(edition, t, &sheet) + "\n";
     for byte in 0..sheet.len() {
         for bit in 0..8 {
             let mut flipped = sheet.clone();
@@ -444,6 +527,92 @@ fn pointed_fields(pointed: Pointed) -> String {
         "{} {} {} {}",
         pointed.number, pointed.rule, pointed.slot, pointed.place
     )
+}
+
+/// The term sheet of three slots: n, opening days, closing days. Slot 0 is on
+/// show from 100 to 200, slot 1 always, slot 2 from 36000 on.
+fn list_terms() -> Vec<u8> {
+    let numbers: [u16; 7] = [3, 100, 0, 36000, 200, 36524, 36524];
+    numbers.map(u16::to_be_bytes).concat()
+}
+
+/// Days about the ends of the terms and of the calendar.
+const DAYS: [usize; 10] = [0, 99, 100, 150, 200, 201, 35999, 36000, 36524, 36525];
+
+/// For each edition and each t a sheet of three slots and a term sheet, then a
+/// line for each slot up to 3 and each day.
+pub fn dated() -> String {
+    let reads = |(edition, t)| dated_reads(edition, t);
+    kinds().into_iter().map(reads).collect()
+}
+
+/// The sheet and the term sheet; then slot, day, number, rule, length, window of
+/// a dated read.
+fn dated_reads(edition: Edition, t: usize) -> String {
+    let (sealing, checking) = list_keys(t);
+    let sheet = mixed_sheet(edition, t);
+    let terms = list_terms();
+    let mut lines = sheet_fields(edition, t, &sheet) + &format!(" {}\n", hex(&terms));
+    for slot in 0..=3 {
+        for day in DAYS {
+            let mut window = [0xff; 192];
+            let read = dated_read(&sealing, &checking, &sheet, &terms, slot, day, &mut window);
+            let (number, rule, length) = (read.number, read.rule, read.length);
+            lines += &format!("{slot} {day} {number} {rule} {length} {}\n", hex(&window));
+        }
+    }
+    lines
+}
+
+/// Byte 3, byte 2, key bytes, then number and rule of a read, a dated read and a
+/// write, the number of a clear and the number of blanking with byte 2 as t.
+pub fn classes() -> String {
+    let mut lines = String::new();
+    for byte_3 in [0, 1, 2, 3, 4, 255] {
+        for byte_2 in 0..=255 {
+            for length in 7..=17 {
+                lines += &class_line(byte_3, byte_2, length);
+            }
+        }
+    }
+    lines
+}
+
+/// The calls on a blank sheet of one slot with keys of a length.
+fn class_line(byte_3: u8, byte_2: u8, length: usize) -> String {
+    let t = usize::from(byte_2);
+    let sealing = key_of_length(length, t);
+    let checking = key_of_length(length, t + 1);
+    let sheet = class_sheet(byte_3, byte_2, &sealing, &checking);
+    let terms = [0, 1, 0, 0, 0, 0];
+    let mut window = [0; 192];
+    let answers = [
+        read(&sealing, &checking, &sheet, 0, &mut window),
+        dated_read(&sealing, &checking, &sheet, &terms, 0, 0, &mut window),
+        write(&sealing, &checking, &mut sheet.clone(), 0, b"abc"),
+    ];
+    let pointed = answers.map(|answer| format!("{} {}", answer.number, answer.rule));
+    let cleared = clear(&mut sheet.clone(), 0).number;
+    let blanked = blank(&mut [0; 224], 1, t, list_serial(t), &sealing, &checking).number;
+    let answers = pointed.join(" ");
+    format!("{byte_3} {byte_2} {length} {answers} {cleared} {blanked}\n")
+}
+
+/// A blank sheet of one slot, edition 1's 216 bytes long and all others 224, with
+/// the pair's key mark in edition 3 if it has one.
+fn class_sheet(byte_3: u8, byte_2: u8, sealing: &[u8], checking: &[u8]) -> Vec<u8> {
+    let t = usize::from(byte_2);
+    let serial = list_serial(t);
+    let mut sheet = vec![0; if byte_3 == 1 { 216 } else { 224 }];
+    sheet[0..4].copy_from_slice(&[0, 1, byte_2, byte_3]);
+    if byte_3 != 1 {
+        sheet[8..10].copy_from_slice(&serial.to_be_bytes());
+    }
+    if byte_3 == 3 {
+        let mark = key_mark(1, t, serial, sealing, checking);
+        sheet[10..16].copy_from_slice(&mark.unwrap_or_default());
+    }
+    sheet
 }
 
 /// The examples of RFC 3629, section 7.

@@ -41,7 +41,8 @@ pub enum Fault {
         /// The slot count.
         slots: u16,
     },
-    /// Rule 3: byte 2, the key's words, isn't 4, 6 or 8.
+    /// Rule 3: byte 2 isn't 4, 6 or 8, nor in edition 3 21 or 24: no
+    /// [`Cipher`](crate::Cipher) that the edition has.
     KeyWords {
         /// Byte 2.
         words: u8,
@@ -187,7 +188,7 @@ impl fmt::Display for Fault {
             ),
             Fault::KeyWords { words } => write!(
                 f,
-                "keys of {words} words, where a sheet has 4, 6 or 8 (byte 2)"
+                "key class {words}, where there are 4, 6 and 8, in edition 3 also 21 and 24 (byte 2)"
             ),
             Fault::Edition { edition } => {
                 write!(f, "edition {edition}, where there are 1, 2 and 3 (byte 3)")

@@ -2,7 +2,8 @@
 //!
 //! A sheet is a buffer of bytes with up to 256 slots, each blank or holding a
 //! caption of up to 192 bytes, sealed under one key and checked under another.
-//! One pair of keys serves a sheet, the pair that it was blanked with ([`blank`]).
+//! One pair of keys serves a sheet, the pair that it was blanked with ([`blank`]),
+//! by mCrypton or by PRESENT ([`Cipher`]).
 //! A term sheet beside it says when each slot is on show ([`dated_read`],
 //! [`terms_set`]). A wall panel of up to 65536 bytes is sealed without a sheet
 //! ([`panel`]).
@@ -11,12 +12,12 @@
 //! what the library can't use, it refuses. Nothing here panics.
 //!
 //! ```
-//! use captions::{blank, list, read, sheet_len, write, Refusal, FIELD};
+//! use captions::{blank, list, read, sheet_len, write, Cipher, Refusal, FIELD};
 //!
 //! let sealing_key = *b"seal it.";
 //! let checking_key = *b"check it";
 //! let mut sheet = vec![0; sheet_len(2)];
-//! blank(&mut sheet, 2, 4, 1, &sealing_key, &checking_key)?;
+//! blank(&mut sheet, 2, Cipher::Mcrypton64, 1, &sealing_key, &checking_key)?;
 //! write(&sealing_key, &checking_key, &mut sheet, 1, b"Vase, 1751")?;
 //!
 //! let mut window = [0; FIELD];
@@ -36,6 +37,7 @@
 
 #![warn(missing_docs)]
 
+mod cipher;
 mod date;
 mod fault;
 mod library;
@@ -43,6 +45,7 @@ mod refusal;
 mod terms;
 mod text;
 
+pub use cipher::{Cipher, Class};
 pub use date::Date;
 pub use fault::{Change, Fault};
 use library::{Answer, Pointed};
@@ -52,7 +55,7 @@ pub use text::{Break, BreakKind};
 
 /// The bytes of a block or an array, and of an output.
 pub const BLOCK: usize = 8;
-/// The rounds of a block, and the last of them.
+/// The rounds of mCrypton, and the last of them.
 pub const ROUNDS: usize = 12;
 /// The bytes of a check (CMAC).
 pub const CHECK: usize = 8;
@@ -112,7 +115,8 @@ pub const fn terms_len(slots: usize) -> usize {
     slots.saturating_mul(2 + 2).saturating_add(2)
 }
 
-/// Seals (encrypts) one block of 8 bytes into `out`, 8 bytes too.
+/// Seals (encrypts) one block of 8 bytes with mCrypton, under a key of 8, 12 or 16
+/// bytes, into `out`, 8 bytes too.
 ///
 /// Bit r - 1 of `path`, from the lowest, is 1 for the word path in round r and
 /// 0 for the nibble path; the top four bits count for nothing. Every path gives
@@ -137,8 +141,8 @@ pub fn encrypt_block(key: &[u8], block: &[u8], path: u16, out: &mut [u8]) -> Res
     done(library::encrypt_block(key, block, path, out))
 }
 
-/// Opens (decrypts) one block of 8 bytes into `out`, 8 bytes too; `path` is as
-/// for [`encrypt_block`].
+/// Opens (decrypts) one block of 8 bytes with mCrypton into `out`, 8 bytes too; key
+/// and `path` are as for [`encrypt_block`].
 ///
 /// # Errors
 ///
@@ -159,9 +163,53 @@ pub fn decrypt_block(key: &[u8], block: &[u8], path: u16, out: &mut [u8]) -> Res
     done(library::decrypt_block(key, block, path, out))
 }
 
-/// For a bench that tests chips by watching one round: puts into `out`, 8 bytes,
-/// the one block that leads to the `wanted` array after that round of sealing it
-/// under the key. No other block leads there.
+/// Seals (encrypts) one block of 8 bytes with PRESENT, under a key of 10 or 16
+/// bytes, into `out`, 8 bytes too.
+///
+/// # Errors
+///
+/// [`Refusal::WrongKey`] and [`Refusal::WrongSpan`]; `out` is then as it was.
+///
+/// ```
+/// use captions::{present_encrypt_block, Refusal};
+///
+/// let mut out = [0; 8];
+/// present_encrypt_block(&[0; 10], &[0; 8], &mut out)?;
+/// assert_eq!(out, [0x55, 0x79, 0xc1, 0x38, 0x7b, 0x22, 0x84, 0x45]);
+/// let answer = present_encrypt_block(&[0; 8], &[0; 8], &mut out);
+/// assert_eq!(answer, Err(Refusal::WrongKey));
+/// # Ok::<(), Refusal>(())
+/// ```
+pub fn present_encrypt_block(key: &[u8], block: &[u8], out: &mut [u8]) -> Result<(), Refusal> {
+    done(library::present_encrypt_block(key, block, out))
+}
+
+/// Opens (decrypts) one block of 8 bytes with PRESENT, under a key of 10 or 16
+/// bytes, into `out`, 8 bytes too.
+///
+/// # Errors
+///
+/// [`Refusal::WrongKey`] and [`Refusal::WrongSpan`]; `out` is then as it was.
+///
+/// ```
+/// use captions::{present_decrypt_block, present_encrypt_block, Refusal};
+///
+/// let (key, block) = ([7; 16], *b"8 bytes.");
+/// let (mut sealed, mut opened) = ([0; 8], [0; 8]);
+/// present_encrypt_block(&key, &block, &mut sealed)?;
+/// present_decrypt_block(&key, &sealed, &mut opened)?;
+/// assert_eq!(opened, block);
+/// let answer = present_decrypt_block(&key, &sealed[..7], &mut opened);
+/// assert_eq!(answer, Err(Refusal::WrongSpan));
+/// # Ok::<(), Refusal>(())
+/// ```
+pub fn present_decrypt_block(key: &[u8], block: &[u8], out: &mut [u8]) -> Result<(), Refusal> {
+    done(library::present_decrypt_block(key, block, out))
+}
+
+/// For a bench that tests mCrypton chips by watching one round: puts into `out`, 8
+/// bytes, the one block that leads to the `wanted` array after that round of sealing
+/// it under the key, 8, 12 or 16 bytes. No other block leads there.
 ///
 /// Round 0 is after the first key addition, round [`ROUNDS`] before the last
 /// step, φ. The array is 8 bytes, 16 nibbles row by row, as a block is.
@@ -187,7 +235,8 @@ pub fn bench_block(key: &[u8], round: usize, wanted: &[u8], out: &mut [u8]) -> R
     done(library::bench_block(key, round, wanted, out))
 }
 
-/// Puts the check (CMAC) of a message of any length into `out`, 8 bytes.
+/// Puts the check (CMAC) of a message of any length, with mCrypton and a key of 8, 12
+/// or 16 bytes, into `out`, 8 bytes.
 ///
 /// # Errors
 ///
@@ -208,9 +257,10 @@ pub fn cmac(key: &[u8], message: &[u8], out: &mut [u8]) -> Result<(), Refusal> {
 }
 
 /// Seals a wall panel of 0 to [`PANEL`] bytes into `out`, as many bytes, by counter
-/// mode (CTR of SP 800-38A). Called again on the sealed bytes with the same key and
-/// the same `first`, it opens them. Block i of 8 bytes, from 0, is added to the
-/// sealed number `first` + i, which wraps at 64 bits.
+/// mode (CTR of SP 800-38A) with mCrypton and a key of 8, 12 or 16 bytes. Called
+/// again on the sealed bytes with the same key and the same `first`, it opens them.
+/// Block i of 8 bytes, from 0, is added to the sealed number `first` + i, which wraps
+/// at 64 bits.
 ///
 /// **Never seal two panels under one key from the same numbers**: whoever has both
 /// has their exclusive or, and with one of the two texts the other. Nothing is kept
@@ -258,11 +308,13 @@ pub const fn panel_blocks(length: usize) -> u64 {
 }
 
 /// Makes a buffer of [`sheet_len`]`(slots)` bytes a sheet of blank slots for this
-/// pair of keys, which have `key_words` 16-bit words each: 4, 6 or 8 for keys of
-/// 8, 12 or 16 bytes. What the buffer held doesn't matter.
+/// pair of keys. `cipher` is a [`Cipher`], or its number in byte 2 of a sheet: 4, 6
+/// or 8 for mCrypton with keys of 8, 12 or 16 bytes, 21 or 24 for PRESENT with keys
+/// of 10 or 16. It seals, checks and marks the sheet. What the buffer held doesn't
+/// matter.
 ///
 /// That pair serves the sheet from then on. Bytes 10 to 15 are the key mark, made
-/// from both keys, `slots`, `key_words` and `serial`; a read or write under a
+/// from both keys, `slots`, `cipher` and `serial`; a read or write under a
 /// pair with another mark is refused, [`Refusal::OtherKeys`], before anything is
 /// opened. A mark has 48 bits: another pair can have the same one by chance.
 ///
@@ -274,21 +326,21 @@ pub const fn panel_blocks(length: usize) -> u64 {
 ///
 /// # Errors
 ///
-/// In the order of the tests: [`Refusal::WrongKey`] for another number of words
+/// In the order of the tests: [`Refusal::WrongKey`] for a number that is no cipher's
 /// or a wrong key, [`Refusal::TwinKeys`], [`Refusal::WrongSpan`] for `slots`
 /// outside 1 to 256 or a buffer of another length, and
-/// [`Refusal::OtherKeyClass`] for keys that haven't so many words; `sheet` is
-/// then as it was.
+/// [`Refusal::OtherKeyClass`] for keys of another length than the cipher has;
+/// `sheet` is then as it was.
 ///
 /// ```
-/// use captions::{blank, list, read, sheet_len, Refusal, FIELD};
+/// use captions::{blank, list, read, sheet_len, Cipher, Refusal, FIELD};
 ///
 /// let (sealing_key, checking_key) = ([1; 8], [2; 8]);
 /// let mut sheet = vec![0xff; sheet_len(2)];
 /// blank(&mut sheet, 2, 4, 1, &sealing_key, &checking_key)?;
 /// assert_eq!(list(&sheet), b"slots 2 key 64 last 0\n0 blank\n1 blank\n");
 /// assert_eq!(sheet[8..10], [0, 1]);
-/// let answer = blank(&mut sheet, 2, 6, 2, &sealing_key, &checking_key);
+/// let answer = blank(&mut sheet, 2, Cipher::Present80, 2, &sealing_key, &checking_key);
 /// assert_eq!(answer, Err(Refusal::OtherKeyClass));
 ///
 /// let mut window = [0; FIELD];
@@ -301,12 +353,13 @@ pub const fn panel_blocks(length: usize) -> u64 {
 pub fn blank(
     sheet: &mut [u8],
     slots: usize,
-    key_words: usize,
+    cipher: impl Class,
     serial: u16,
     sealing_key: &[u8],
     checking_key: &[u8],
 ) -> Result<(), Refusal> {
-    let answer = library::blank(sheet, slots, key_words, serial, sealing_key, checking_key);
+    let class = cipher.number();
+    let answer = library::blank(sheet, slots, class, serial, sealing_key, checking_key);
     done(answer)
 }
 
@@ -656,6 +709,17 @@ fn done(answer: Answer) -> Result<(), Refusal> {
 ///     match kind {
 ///         CutOffAtEnd | CutOff | Continuation | OverlongForm => 1,
 ///         Surrogate | TooHigh | NoLetter | Unnamed => 2,
+///     }
+/// }
+/// ```
+///
+/// ```compile_fail,E0004
+/// use captions::Cipher::{self, *};
+///
+/// fn of_cipher(cipher: Cipher) -> u8 {
+///     match cipher {
+///         Mcrypton64 | Mcrypton96 | Mcrypton128 => 1,
+///         Present80 | Present128 => 2,
 ///     }
 /// }
 /// ```

@@ -59,6 +59,22 @@ mod c {
             out: *mut u8,
             out_len: usize,
         ) -> Answer;
+        pub fn captions_present_encrypt_block(
+            key: *const u8,
+            key_len: usize,
+            block: *const u8,
+            block_len: usize,
+            out: *mut u8,
+            out_len: usize,
+        ) -> Answer;
+        pub fn captions_present_decrypt_block(
+            key: *const u8,
+            key_len: usize,
+            block: *const u8,
+            block_len: usize,
+            out: *mut u8,
+            out_len: usize,
+        ) -> Answer;
         pub fn captions_bench_block(
             key: *const u8,
             key_len: usize,
@@ -89,7 +105,7 @@ mod c {
             sheet: *mut u8,
             sheet_len: usize,
             slots: usize,
-            key_words: usize,
+            key_class: usize,
             serial: u16,
             sealing_key: *const u8,
             sealing_len: usize,
@@ -175,6 +191,34 @@ pub fn decrypt_block(key: &[u8], block: &[u8], path: u16, out: &mut [u8]) -> Ans
     }
 }
 
+pub fn present_encrypt_block(key: &[u8], block: &[u8], out: &mut [u8]) -> Answer {
+    // SAFETY: as at the head of this file.
+    unsafe {
+        c::captions_present_encrypt_block(
+            key.as_ptr(),
+            key.len(),
+            block.as_ptr(),
+            block.len(),
+            out.as_mut_ptr(),
+            out.len(),
+        )
+    }
+}
+
+pub fn present_decrypt_block(key: &[u8], block: &[u8], out: &mut [u8]) -> Answer {
+    // SAFETY: as at the head of this file.
+    unsafe {
+        c::captions_present_decrypt_block(
+            key.as_ptr(),
+            key.len(),
+            block.as_ptr(),
+            block.len(),
+            out.as_mut_ptr(),
+            out.len(),
+        )
+    }
+}
+
 pub fn bench_block(key: &[u8], round: usize, wanted: &[u8], out: &mut [u8]) -> Answer {
     // SAFETY: as at the head of this file.
     unsafe {
@@ -221,7 +265,7 @@ pub fn panel(key: &[u8], first: u64, panel: &[u8], out: &mut [u8]) -> Answer {
 pub fn blank(
     sheet: &mut [u8],
     slots: usize,
-    key_words: usize,
+    key_class: usize,
     serial: u16,
     sealing_key: &[u8],
     checking_key: &[u8],
@@ -232,7 +276,7 @@ pub fn blank(
             sheet.as_mut_ptr(),
             sheet.len(),
             slots,
-            key_words,
+            key_class,
             serial,
             sealing_key.as_ptr(),
             sealing_key.len(),

@@ -26,8 +26,8 @@ use std::fmt;
 #[derive(Clone, Copy, Debug, PartialEq, Eq, Hash)]
 #[non_exhaustive]
 pub enum Refusal {
-    /// 1: a key isn't 8, 12 or 16 bytes, or the two lengths differ; blanking:
-    /// the key words aren't 4, 6 or 8.
+    /// 1: a key isn't 8, 12 or 16 bytes (on sheets 10 too, PRESENT's blocks: isn't
+    /// 10 or 16), or the two lengths differ; blanking: a number that is no cipher's.
     WrongKey,
     /// 2: sealing and checking key are equal.
     TwinKeys,
@@ -40,8 +40,8 @@ pub enum Refusal {
     /// day above [`LAST_DAY`](crate::LAST_DAY), in any slot. With the rule that
     /// is broken first.
     UnfitSheet(Fault),
-    /// 5: the keys have another length than the sheet's; blanking: than the key
-    /// words have.
+    /// 5: the keys have another length than the sheet's cipher has; blanking: than
+    /// the cipher given.
     OtherKeyClass,
     /// 6: the slot isn't below the slot count.
     NoSuchSlot,

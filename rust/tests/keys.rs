@@ -3,26 +3,25 @@
 
 use captions::{
     blank, clear, dated_read, first_fault, list, read, sheet_len, sheet_len_1, write, Break,
-    BreakKind, Change, Fault, Refusal, FIELD, LAST_DAY,
+    BreakKind, Change, Cipher, Fault, Refusal, FIELD, LAST_DAY,
 };
 
 const SLOTS: usize = 2;
-const CLASSES: [usize; 3] = [4, 6, 8];
+const MCRYPTON: [Cipher; 3] = [Cipher::Mcrypton64, Cipher::Mcrypton96, Cipher::Mcrypton128];
 /// Every slot is on show on every day.
 const TERMS: [u8; 10] = [0, 2, 0, 0, 0, 0, 0x8e, 0xac, 0x8e, 0xac];
 
 type Pair = [Vec<u8>; 2];
 
-/// Unlike keys of a class.
-fn pair(key_words: usize) -> Pair {
-    [3, 90].map(|first| (first..).take(2 * key_words).collect())
+/// Unlike keys of so many bytes.
+fn pair(bytes: usize) -> Pair {
+    [3, 90].map(|first| (first..).take(bytes).collect())
 }
 
 /// A sheet that a pair serves, with a caption in slot 0.
-fn own_sheet(keys: &Pair, serial: u16) -> Vec<u8> {
+fn own_sheet(cipher: Cipher, keys: &Pair, serial: u16) -> Vec<u8> {
     let mut sheet = vec![0; sheet_len(SLOTS)];
-    let key_words = keys[0].len() / 2;
-    blank(&mut sheet, SLOTS, key_words, serial, &keys[0], &keys[1]).unwrap();
+    blank(&mut sheet, SLOTS, cipher, serial, &keys[0], &keys[1]).unwrap();
     write(&keys[0], &keys[1], &mut sheet, 0, b"Vase, 1751").unwrap();
     sheet
 }
@@ -80,20 +79,43 @@ fn strangers(keys: &Pair) -> Vec<Pair> {
     strangers
 }
 
+/// A block sealed by a cipher.
+fn sealed(cipher: Cipher, key: &[u8], block: [u8; 8]) -> [u8; 8] {
+    let mut out = [0; 8];
+    match cipher {
+        Cipher::Present80 | Cipher::Present128 => {
+            captions::present_encrypt_block(key, &block, &mut out).unwrap()
+        }
+        _ => captions::encrypt_block(key, &block, 0, &mut out).unwrap(),
+    }
+    out
+}
+
+/// CMAC of one block: L doubled is added. [`captions::cmac`] is mCrypton's alone.
+fn mac_of_block(cipher: Cipher, key: &[u8], block: [u8; 8]) -> [u8; 8] {
+    let l = u64::from_be_bytes(sealed(cipher, key, [0; 8]));
+    let k1 = l << 1 ^ if l >> 63 == 1 { 0x1b } else { 0 };
+    let last = k1 ^ u64::from_be_bytes(block);
+    sealed(cipher, key, last.to_be_bytes())
+}
+
 #[test]
 fn the_mark_is_the_pairs_by_the_definition() {
-    for key_words in CLASSES {
-        let [sealing, checking] = pair(key_words);
+    for cipher in Cipher::ALL {
+        let [sealing, checking] = pair(cipher.key_bytes());
         for serial in [0, 1, 255, 256, 0x5a04, 65535] {
             for slots in [1, 2, 255, 256] {
                 let mut sheet = vec![0xff; sheet_len(slots)];
-                blank(&mut sheet, slots, key_words, serial, &sealing, &checking).unwrap();
+                blank(&mut sheet, slots, cipher, serial, &sealing, &checking).unwrap();
                 let [[a, b], [e, f]] = [slots as u16, serial].map(u16::to_be_bytes);
-                let block = [a, b, key_words as u8, 3, e, f, 0, 0];
-                let (mut sealed, mut check) = ([0; 8], [0; 8]);
-                captions::encrypt_block(&sealing, &block, 0, &mut sealed).unwrap();
-                captions::cmac(&checking, &sealed, &mut check).unwrap();
-                assert_eq!(sheet[..8], [a, b, key_words as u8, 3, 0, 0, 0, 0]);
+                let sealed = sealed(cipher, &sealing, [a, b, cipher.class(), 3, e, f, 0, 0]);
+                let check = mac_of_block(cipher, &checking, sealed);
+                if MCRYPTON.contains(&cipher) {
+                    let mut public = [0; 8];
+                    captions::cmac(&checking, &sealed, &mut public).unwrap();
+                    assert_eq!(check, public);
+                }
+                assert_eq!(sheet[..8], [a, b, cipher.class(), 3, 0, 0, 0, 0]);
                 assert_eq!(sheet[8..10], [e, f]);
                 assert_eq!(sheet[10..16], check[..6]);
                 assert!(sheet[16..].iter().all(|byte| *byte == 0));
@@ -106,9 +128,9 @@ fn the_mark_is_the_pairs_by_the_definition() {
 #[test]
 fn a_stranger_is_refused_at_every_slot() {
     let mut count = 0;
-    for key_words in CLASSES {
-        let keys = pair(key_words);
-        let sheet = own_sheet(&keys, 7);
+    for cipher in Cipher::ALL {
+        let keys = pair(cipher.key_bytes());
+        let sheet = own_sheet(cipher, &keys, 7);
         assert_eq!(answers(&keys, &sheet, 0), [None; 3]);
         for stranger in strangers(&keys) {
             for slot in [0, 1, SLOTS, 255, 256, usize::MAX] {
@@ -124,9 +146,9 @@ fn a_stranger_is_refused_at_every_slot() {
 /// sheet is fit, listed and cleared.
 #[test]
 fn every_bit_of_a_mark() {
-    for key_words in CLASSES {
-        let keys = pair(key_words);
-        let whole = own_sheet(&keys, 7);
+    for cipher in Cipher::ALL {
+        let keys = pair(cipher.key_bytes());
+        let whole = own_sheet(cipher, &keys, 7);
         for bit in 0..48 {
             let mut sheet = whole.clone();
             sheet[10 + bit / 8] ^= 1 << (bit % 8);
@@ -143,8 +165,8 @@ fn every_bit_of_a_mark() {
 /// The serial is covered by the mark, the last write number isn't.
 #[test]
 fn every_bit_of_the_serial_and_of_the_last_write_number() {
-    let keys = pair(4);
-    let whole = own_sheet(&keys, 7);
+    let keys = pair(8);
+    let whole = own_sheet(Cipher::Mcrypton64, &keys, 7);
     for bit in 0..16 {
         let mut sheet = whole.clone();
         sheet[8 + bit / 8] ^= 1 << (bit % 8);
@@ -163,8 +185,8 @@ fn every_bit_of_the_serial_and_of_the_last_write_number() {
 fn older_editions_take_any_pair_of_their_class() {
     let altered = Some(Refusal::Altered(Change::Check { slot: 0 }));
     for edition in [1, 2] {
-        for key_words in CLASSES {
-            let keys = pair(key_words);
+        for cipher in MCRYPTON {
+            let keys = pair(cipher.key_bytes());
             let sheet = older_sheet(&keys, edition);
             for stranger in strangers(&keys) {
                 // Under the same checking key the check agrees, and what opens is
@@ -189,13 +211,13 @@ fn older_editions_take_any_pair_of_their_class() {
 /// mark, and nobody's but by chance.
 #[test]
 fn an_older_sheet_called_edition_3_is_nobodys() {
-    let keys = pair(4);
+    let keys = pair(8);
     let mut sheet = older_sheet(&keys, 2);
     sheet[3] = 3;
     assert_eq!(first_fault(&sheet), None);
     assert_eq!(answers(&keys, &sheet, 0), OTHER_KEYS);
     // The other way round the mark is what edition 2 keeps zero.
-    let mut sheet = own_sheet(&keys, 7);
+    let mut sheet = own_sheet(Cipher::Mcrypton64, &keys, 7);
     sheet[3] = 2;
     let place = (10..16).find(|place| sheet[*place] != 0).unwrap();
     let unfit = Some(Refusal::UnfitSheet(Fault::HeaderByte { place }));
@@ -205,9 +227,9 @@ fn an_older_sheet_called_edition_3_is_nobodys() {
 /// Strangers' calls among the pair's leave the pair's as they would be alone.
 #[test]
 fn a_strangers_write_leaves_no_trace() {
-    let keys = pair(6);
+    let keys = pair(10);
     let [sealing, checking] = &keys;
-    let (mut among, mut alone) = (own_sheet(&keys, 9), own_sheet(&keys, 9));
+    let [mut among, mut alone] = [(); 2].map(|()| own_sheet(Cipher::Present80, &keys, 9));
     for (round, stranger) in strangers(&keys).iter().enumerate() {
         let caption = format!("Clock {round}");
         let refused = write(&stranger[0], &stranger[1], &mut among, round % 3, b"Mine");
@@ -233,9 +255,9 @@ struct Call {
 
 impl Call {
     fn new() -> Call {
-        let keys = pair(4);
+        let keys = pair(8);
         Call {
-            sheet: own_sheet(&keys, 7),
+            sheet: own_sheet(Cipher::Mcrypton64, &keys, 7),
             keys,
             slot: 0,
             caption: b"Clock".to_vec(),
@@ -259,14 +281,14 @@ impl Call {
 /// an earlier one of its table, leaves both done.
 type Way = (Refusal, fn(&mut Call));
 
-const WRONG_KEY: Way = (Refusal::WrongKey, |call| call.keys = pair(5));
+const WRONG_KEY: Way = (Refusal::WrongKey, |call| call.keys = pair(11));
 const TWIN_KEYS: Way = (Refusal::TwinKeys, |call| {
     call.keys[1] = call.keys[0].clone()
 });
 const UNFIT: Way = (Refusal::UnfitSheet(Fault::Edition { edition: 4 }), |call| {
     call.sheet[3] = 4
 });
-const OTHER_CLASS: Way = (Refusal::OtherKeyClass, |call| call.keys = pair(6));
+const OTHER_CLASS: Way = (Refusal::OtherKeyClass, |call| call.keys = pair(12));
 const STRANGE_KEYS: Way = (Refusal::OtherKeys, |call| call.keys[0] = vec![9; 8]);
 const STRANGE_MARK: Way = (Refusal::OtherKeys, |call| {
     call.sheet[15] = call.sheet[15].wrapping_add(1)
@@ -331,8 +353,8 @@ fn first_of(ways: &[Way], run: fn(Call) -> Result<(), Refusal>) {
 /// In a dated read 14 comes after 11.
 #[test]
 fn a_stranger_on_no_day() {
-    let keys = pair(4);
-    let sheet = own_sheet(&keys, 7);
+    let keys = pair(8);
+    let sheet = own_sheet(Cipher::Mcrypton64, &keys, 7);
     let [sealing, checking] = &strangers(&keys)[0];
     let on = |day| dated_read(sealing, checking, &sheet, &TERMS, 0, day, &mut [7; FIELD]);
     let last = usize::from(LAST_DAY);

@@ -117,7 +117,7 @@ fn words_for_somebody_on_the_floor() {
         ),
         (
             changed(2, &[(2, 5)]),
-            "keys of 5 words, where a sheet has 4, 6 or 8 (byte 2)",
+            "key class 5, where there are 4, 6 and 8, in edition 3 also 21 and 24 (byte 2)",
         ),
         (
             changed(1, &[(3, 0)]),

@@ -3,44 +3,36 @@
 /// The editions, from the second program's tests.
 #[path = "../../reference/tests/suite/edition.rs"]
 mod edition;
+/// A seeded generator, from the second program's tests.
+#[allow(dead_code)]
+#[path = "../../reference/tests/suite/random.rs"]
+mod random;
 
 use captions::{sheet_len, sheet_len_1, Refusal, FIELD, HEADER, HEADER_1};
 use edition::Edition;
+use random::Random;
+use reference::class::key_bytes;
 use reference::{Answer, Pointed};
 
-/// A small seeded generator (splitmix64).
-struct Random(u64);
-
 impl Random {
-    fn next(&mut self) -> u64 {
-        self.0 = self.0.wrapping_add(0x9e3779b97f4a7c15);
-        let mut z = self.0;
-        z = (z ^ (z >> 30)).wrapping_mul(0xbf58476d1ce4e5b9);
-        z = (z ^ (z >> 27)).wrapping_mul(0x94d049bb133111eb);
-        z ^ (z >> 31)
-    }
-
-    fn below(&mut self, bound: usize) -> usize {
-        (self.next() % bound as u64) as usize
-    }
-
-    fn bytes(&mut self, length: usize) -> Vec<u8> {
-        (0..length).map(|_| self.next() as u8).collect()
-    }
-
-    fn pick(&mut self, choices: &[usize]) -> usize {
-        choices[self.below(choices.len())]
-    }
-
     /// A key, most often of a length that is taken.
     fn key(&mut self) -> Vec<u8> {
-        let length = self.pick(&[8, 12, 16, 8, 12, 16, 8, 12, 16, 0, 7, 9, 13, 17]);
+        let length = self.pick(&[8, 10, 12, 16, 8, 10, 12, 16, 8, 12, 16, 0, 7, 9, 13, 17]);
         self.bytes(length)
     }
 
-    /// A pair of keys of a class.
-    fn keys(&mut self, key_words: usize) -> [Vec<u8>; 2] {
-        [self.bytes(2 * key_words), self.bytes(2 * key_words)]
+    /// A pair of keys of a class; of what is no class, of eight bytes.
+    fn keys(&mut self, class: usize) -> [Vec<u8>; 2] {
+        let length = key_bytes(class).unwrap_or(8);
+        [self.bytes(length), self.bytes(length)]
+    }
+
+    /// A class that an edition has.
+    fn class(&mut self, edition: Edition) -> usize {
+        match edition {
+            Edition::Three(_) => self.pick(&[4, 6, 8, 21, 24]),
+            _ => self.pick(&[4, 6, 8]),
+        }
     }
 
     /// An edition of each kind.
@@ -75,7 +67,7 @@ impl Random {
     }
 
     /// Bytes, most often 8 of them.
-    fn block(&mut self) -> Vec<u8> {
+    fn some_block(&mut self) -> Vec<u8> {
         let length = self.pick(&[8, 8, 8, 8, 8, 0, 7, 9]);
         self.bytes(length)
     }
@@ -125,10 +117,10 @@ impl Met {
 
 #[test]
 fn blocks() {
-    let mut random = Random(1);
+    let mut random = Random::new(1);
     let mut met = Met::default();
     for _ in 0..2000 {
-        let (key, block, old) = (random.key(), random.block(), random.block());
+        let (key, block, old) = (random.key(), random.some_block(), random.some_block());
         let path = random.next() as u16;
         let (mut out, mut expected) = (old.clone(), old.clone());
         let answer = captions::encrypt_block(&key, &block, path, &mut out).map(|()| 0);
@@ -148,17 +140,38 @@ fn blocks() {
     met.all_of(&[0, 1, 3]);
 }
 
+/// The same of PRESENT, whose keys have other lengths.
+#[test]
+fn present_blocks() {
+    let mut random = Random::new(7);
+    let mut met = Met::default();
+    for _ in 0..2000 {
+        let (key, block, old) = (random.key(), random.some_block(), random.some_block());
+        let (mut out, mut expected) = (old.clone(), old.clone());
+        let answer = captions::present_encrypt_block(&key, &block, &mut out).map(|()| 0);
+        let theirs = reference::present_encrypt_block(&key, &block, &mut expected);
+        met.compare(answer, theirs);
+        assert_eq!(out, expected);
+        let (mut out, mut expected) = (old.clone(), old);
+        let answer = captions::present_decrypt_block(&key, &block, &mut out).map(|()| 0);
+        let theirs = reference::present_decrypt_block(&key, &block, &mut expected);
+        met.compare(answer, theirs);
+        assert_eq!(out, expected);
+    }
+    met.all_of(&[0, 1, 3]);
+}
+
 /// Every round, one above the last and the largest number.
 #[test]
 fn bench() {
-    let mut random = Random(4);
+    let mut random = Random::new(4);
     let mut met = Met::default();
     for round in (0..=captions::ROUNDS + 1)
         .chain([usize::MAX])
         .cycle()
         .take(3000)
     {
-        let (key, wanted, old) = (random.key(), random.block(), random.block());
+        let (key, wanted, old) = (random.key(), random.some_block(), random.some_block());
         let (mut out, mut expected) = (old.clone(), old);
         let answer = captions::bench_block(&key, round, &wanted, &mut out).map(|()| 0);
         met.compare(
@@ -173,7 +186,7 @@ fn bench() {
 /// Lengths about every edge, from numbers at either end; an output of another length.
 #[test]
 fn panels() {
-    let mut random = Random(5);
+    let mut random = Random::new(5);
     let mut met = Met::default();
     for length in (0..=300).chain([65535, 65536, 65537]) {
         for first in [0, u64::from(u32::MAX), u64::MAX - 8191, u64::MAX] {
@@ -197,10 +210,10 @@ fn panels() {
 
 #[test]
 fn checks() {
-    let mut random = Random(2);
+    let mut random = Random::new(2);
     let mut met = Met::default();
     for length in (0..300).chain([4096, 65536]) {
-        let (key, message, old) = (random.key(), random.bytes(length), random.block());
+        let (key, message, old) = (random.key(), random.bytes(length), random.some_block());
         let (mut out, mut expected) = (old.clone(), old);
         let answer = captions::cmac(&key, &message, &mut out).map(|()| 0);
         met.compare(answer, reference::cmac(&key, &message, &mut expected));
@@ -215,18 +228,18 @@ fn blanking() {
     let edition = Edition::BLANKED;
     assert_eq!(HEADER, edition.header());
     assert_eq!(HEADER_1, Edition::One.header());
-    let mut random = Random(3);
+    let mut random = Random::new(3);
     let mut met = Met::default();
     for slots in (0..=257).chain([65536, usize::MAX / 208 + 1, usize::MAX]) {
-        for key_words in [4, 6, 8, 0, 5, 7, 9, 260, usize::MAX] {
+        for class in [4, 6, 8, 21, 24, 0, 5, 7, 9, 22, 260, usize::MAX] {
             let near = slots.min(257);
             let [new, old] = [sheet_len(near), sheet_len_1(near)];
             assert_eq!(new, edition.sheet_length(near));
             assert_eq!(old, Edition::One.sheet_length(near));
             let length = random.pick(&[new, new, new, new + 1, old]);
-            let keys = random.keys(key_words.clamp(4, 8));
+            let keys = random.keys(class);
             let bytes = random.bytes(length);
-            blank_both(&mut random, slots, key_words, &keys, bytes, &mut met);
+            blank_both(&mut random, slots, class, &keys, bytes, &mut met);
         }
     }
     met.all_of(&[0, 1, 3]);
@@ -235,16 +248,16 @@ fn blanking() {
 /// Every refusal of blanking beside every other, and beside none.
 #[test]
 fn blankings_refusals_in_every_combination() {
-    let mut random = Random(6);
+    let mut random = Random::new(6);
     let mut met = Met::default();
-    for key_words in [4, 6, 8, 0, 3, 5, 7, 9, 260, usize::MAX] {
+    for class in [4, 6, 8, 21, 24, 0, 3, 5, 7, 9, 20, 22, 260, usize::MAX] {
         for keys in blanking_keys(&mut random) {
             for slots in [0, 1, 2, 256, 257, usize::MAX] {
                 let near = slots.min(257);
                 let whole = sheet_len(near);
                 for length in [whole, whole - 1, whole + 1, sheet_len_1(near), 0] {
                     let bytes = vec![0xa5; length];
-                    blank_both(&mut random, slots, key_words, &keys, bytes, &mut met);
+                    blank_both(&mut random, slots, class, &keys, bytes, &mut met);
                 }
             }
         }
@@ -271,26 +284,26 @@ fn blanking_keys(random: &mut Random) -> Vec<[Vec<u8>; 2]> {
 fn blank_both(
     random: &mut Random,
     slots: usize,
-    key_words: usize,
+    class: usize,
     [sealing, checking]: &[Vec<u8>; 2],
     bytes: Vec<u8>,
     met: &mut Met,
 ) {
     let serial = random.serial();
     let (mut sheet, mut expected) = (bytes.clone(), bytes);
-    let answer = captions::blank(&mut sheet, slots, key_words, serial, sealing, checking);
+    let answer = captions::blank(&mut sheet, slots, class, serial, sealing, checking);
     met.compare(
         answer.map(|()| 0),
-        reference::blank(&mut expected, slots, key_words, serial, sealing, checking),
+        reference::blank(&mut expected, slots, class, serial, sealing, checking),
     );
     assert!(sheet == expected);
 }
 
 /// A blank sheet that the keys serve.
-fn blank_for(edition: Edition, slots: usize, key_words: usize, keys: &[Vec<u8>; 2]) -> Vec<u8> {
-    let mut sheet = edition.blank_sheet(slots, key_words);
+fn blank_for(edition: Edition, slots: usize, class: usize, keys: &[Vec<u8>; 2]) -> Vec<u8> {
+    let mut sheet = edition.blank_sheet(slots, class);
     if let Edition::Three(serial) = edition {
-        let mark = reference::key_mark(slots, key_words, serial, &keys[0], &keys[1]);
+        let mark = reference::key_mark(slots, class, serial, &keys[0], &keys[1]);
         sheet[10..HEADER].copy_from_slice(&mark.unwrap());
     }
     sheet
@@ -299,7 +312,7 @@ fn blank_for(edition: Edition, slots: usize, key_words: usize, keys: &[Vec<u8>; 
 /// Lists of calls on one sheet, now and then with a byte of it changed.
 #[test]
 fn sheets() {
-    let mut random = Random(4);
+    let mut random = Random::new(4);
     let mut met: [Met; 3] = Default::default();
     for _ in 0..250 {
         for (edition, met) in random.editions().into_iter().zip(&mut met) {
@@ -315,9 +328,9 @@ fn sheets() {
 
 /// A list of calls on a sheet of an edition.
 fn list_of_calls(random: &mut Random, edition: Edition, met: &mut Met) {
-    let (slots, key_words) = (1 + random.below(5), random.pick(&[4, 6, 8]));
-    let keys = random.keys(key_words);
-    let mut sheet = blank_for(edition, slots, key_words, &keys);
+    let (slots, class) = (1 + random.below(5), random.class(edition));
+    let keys = random.keys(class);
+    let mut sheet = blank_for(edition, slots, class, &keys);
     for _ in 0..20 {
         let slot = random.pick(&[0, 0, slots - 1, slots - 1, slots, usize::MAX]);
         let [sealing, checking] = pair(random, &keys);
@@ -352,7 +365,7 @@ fn list_of_calls(random: &mut Random, edition: Edition, met: &mut Met) {
             }
             _ => {
                 let place = random.below(sheet.len());
-                sheet[place] = random.pick(&[0, 1, 255]) as u8;
+                sheet[place] = random.pick(&[0, 1, 21, 24, 255]) as u8;
                 expected = sheet.clone();
             }
         }
@@ -365,7 +378,7 @@ fn list_of_calls(random: &mut Random, edition: Edition, met: &mut Met) {
         );
         // A sheet that a changed byte made unfit or worn is begun anew.
         if !reference::fit(&sheet) && random.below(2) == 0 {
-            sheet = blank_for(edition, slots, key_words, &keys);
+            sheet = blank_for(edition, slots, class, &keys);
         }
         if random.below(20) == 0 {
             sheet[4..8].fill(255);
@@ -410,7 +423,7 @@ fn pair(random: &mut Random, keys: &[Vec<u8>; 2]) -> [Vec<u8>; 2] {
     match random.below(14) {
         0 => [random.key(), random.key()],
         1 => [sealing.clone(), sealing],
-        2 => [random.bytes(8), random.bytes(8)],
+        2 => random.keys(21),
         3 => [checking, sealing],
         4 => {
             let mut keys = [sealing, checking];
@@ -426,7 +439,7 @@ fn pair(random: &mut Random, keys: &[Vec<u8>; 2]) -> [Vec<u8>; 2] {
 /// Reads of a slot on a day, by terms about that day, now and then unfit.
 #[test]
 fn dated_reads() {
-    let mut random = Random(5);
+    let mut random = Random::new(5);
     let mut met: [Met; 3] = Default::default();
     for _ in 0..150 {
         for (edition, met) in random.editions().into_iter().zip(&mut met) {
@@ -441,9 +454,9 @@ fn dated_reads() {
 }
 
 fn dated_reads_of_a_sheet(random: &mut Random, edition: Edition, met: &mut Met) {
-    let (slots, key_words) = (1 + random.below(5), random.pick(&[4, 6, 8]));
-    let keys = random.keys(key_words);
-    let mut sheet = blank_for(edition, slots, key_words, &keys);
+    let (slots, class) = (1 + random.below(5), random.class(edition));
+    let keys = random.keys(class);
+    let mut sheet = blank_for(edition, slots, class, &keys);
     for slot in 0..slots.max(2) - 1 {
         captions::write(&keys[0], &keys[1], &mut sheet, slot, b"Clock").unwrap();
     }

@@ -1,9 +1,15 @@
 //! Broken text: where, why, and who tests it.
 
+/// A seeded generator, from the second program's tests.
+#[allow(dead_code)]
+#[path = "../../reference/tests/suite/random.rs"]
+mod random;
+
 use captions::{
     blank, broken_at, clear, dated_read, list, read, sheet_len, sheet_len_1, write, Break,
     BreakKind, Refusal, FIELD,
 };
+use random::Random;
 
 const KEYS: [[u8; 8]; 2] = [[1; 8], [2; 8]];
 
@@ -204,22 +210,7 @@ fn hold_to_std(text: &[u8]) -> Option<BreakKind> {
     }
 }
 
-/// A small seeded generator (splitmix64).
-struct Random(u64);
-
 impl Random {
-    fn next(&mut self) -> u64 {
-        self.0 = self.0.wrapping_add(0x9e3779b97f4a7c15);
-        let mut z = self.0;
-        z = (z ^ (z >> 30)).wrapping_mul(0xbf58476d1ce4e5b9);
-        z = (z ^ (z >> 27)).wrapping_mul(0x94d049bb133111eb);
-        z ^ (z >> 31)
-    }
-
-    fn below(&mut self, bound: usize) -> usize {
-        (self.next() % bound as u64) as usize
-    }
-
     /// Letters of every length, up to 192 bytes, cut anywhere; most often with a byte
     /// changed, put in or taken out.
     fn text(&mut self) -> Vec<u8> {
@@ -248,7 +239,7 @@ impl Random {
 
 #[test]
 fn seeded_texts_beside_the_standard_library() {
-    let mut random = Random(9);
+    let mut random = Random::new(9);
     let mut met: Vec<(Option<BreakKind>, usize)> = Vec::new();
     for _ in 0..40_000 {
         let kind = hold_to_std(&random.text());

@@ -34,6 +34,22 @@ static const struct edition editions[] = {
 };
 #define EDITIONS (sizeof editions / sizeof editions[0])
 
+/* A key class: what blanking takes, the bytes of its keys, and the first line of
+ * the listing of a sheet that was written once. Those of PRESENT come last. */
+struct class {
+    size_t number, key_len;
+    const char *listing;
+};
+static const struct class classes[] = {
+    {CAPTIONS_MCRYPTON_64, 8, "slots 3 key 64 last 1\n"},
+    {CAPTIONS_MCRYPTON_96, 12, "slots 3 key 96 last 1\n"},
+    {CAPTIONS_MCRYPTON_128, 16, "slots 3 key 128 last 1\n"},
+    {CAPTIONS_PRESENT_80, 10, "slots 3 key 80 last 1\n"},
+    {CAPTIONS_PRESENT_128, 16, "slots 3 key 128 last 1\n"},
+};
+#define MCRYPTON_CLASSES 3
+#define CLASSES (sizeof classes / sizeof classes[0])
+
 /* One byte more than the longest key; a call takes as many as it is told. */
 static const uint8_t sealing[17] = {0x0d, 0x2a, 0x47, 0x64, 0x81, 0x9e,
                                     0xbb, 0xd8, 0xf5, 0x12, 0x2f, 0x4c,
@@ -133,13 +149,9 @@ typedef captions_answer block_call(const uint8_t *, size_t, const uint8_t *,
 
 static void block_refusals(block_call *call)
 {
-    static const size_t wrong_keys[] = {0, 7, 9, 11, 13, 15, 17};
     uint8_t out[9];
-    size_t i;
     memset(out, UNTOUCHED, sizeof out);
-    for (i = 0; i < sizeof wrong_keys / sizeof wrong_keys[0]; i++)
-        CHECK(refused(call(sealing, wrong_keys[i], block, 8, 0, out, 8),
-                      CAPTIONS_WRONG_KEY));
+    CHECK(refused(call(sealing, 0, block, 8, 0, out, 8), CAPTIONS_WRONG_KEY));
     CHECK(refused(call(sealing, 7, block, 7, 0, out, 7), CAPTIONS_WRONG_KEY));
     CHECK(refused(call(sealing, 8, block, 7, 0, out, 8), CAPTIONS_WRONG_SPAN));
     CHECK(refused(call(sealing, 8, block, 0, 0, out, 8), CAPTIONS_WRONG_SPAN));
@@ -149,6 +161,70 @@ static void block_refusals(block_call *call)
     CHECK(all(out, sizeof out, UNTOUCHED));
     CHECK(accepted(call(sealing, 8, block, 8, 0, out, 8)));
     CHECK(out[8] == UNTOUCHED);
+}
+
+/* ---- PRESENT's blocks ---- */
+
+/* The vectors of PRESENT's authors: every byte of the key and of the block is the
+ * one that stands here. */
+struct present_case {
+    size_t key_len;
+    uint8_t key, block;
+    uint8_t sealed[CAPTIONS_BLOCK];
+};
+static const struct present_case present_cases[] = {
+    {10, 0x00, 0x00, {0x55, 0x79, 0xc1, 0x38, 0x7b, 0x22, 0x84, 0x45}},
+    {10, 0xff, 0x00, {0xe7, 0x2c, 0x46, 0xc0, 0xf5, 0x94, 0x50, 0x49}},
+    {10, 0x00, 0xff, {0xa1, 0x12, 0xff, 0xc7, 0x2f, 0x68, 0x41, 0x7b}},
+    {10, 0xff, 0xff, {0x33, 0x33, 0xdc, 0xd3, 0x21, 0x32, 0x10, 0xd2}},
+    {16, 0x00, 0x00, {0x96, 0xdb, 0x70, 0x2a, 0x2e, 0x69, 0x00, 0xaf}},
+    {16, 0xff, 0x00, {0x13, 0x23, 0x8c, 0x71, 0x02, 0x72, 0xa5, 0xd8}},
+    {16, 0x00, 0xff, {0x3c, 0x60, 0x19, 0xe5, 0xe5, 0xed, 0xd5, 0x63}},
+    {16, 0xff, 0xff, {0x62, 0x8d, 0x9f, 0xbd, 0x42, 0x18, 0xe5, 0xb4}},
+};
+#define PRESENT_CASES (sizeof present_cases / sizeof present_cases[0])
+
+static void present_vectors(void)
+{
+    size_t i;
+    for (i = 0; i < PRESENT_CASES; i++) {
+        const struct present_case *c = &present_cases[i];
+        uint8_t key[16], plain_block[CAPTIONS_BLOCK], out[CAPTIONS_BLOCK + 1];
+        memset(key, c->key, sizeof key);
+        memset(plain_block, c->block, sizeof plain_block);
+        memset(out, UNTOUCHED, sizeof out);
+        CHECK(accepted(captions_present_encrypt_block(key, c->key_len,
+                                                      plain_block, 8, out, 8)));
+        CHECK(same(out, c->sealed, 8) && out[8] == UNTOUCHED);
+        CHECK(accepted(captions_present_decrypt_block(key, c->key_len,
+                                                      c->sealed, 8, out, 8)));
+        CHECK(same(out, plain_block, 8) && out[8] == UNTOUCHED);
+    }
+}
+
+typedef captions_answer present_call(const uint8_t *, size_t, const uint8_t *,
+                                     size_t, uint8_t *, size_t);
+
+static void present_refusals(present_call *call)
+{
+    uint8_t out[9];
+    size_t key_len;
+    memset(out, UNTOUCHED, sizeof out);
+    CHECK(refused(call(sealing, 0, block, 8, out, 8), CAPTIONS_WRONG_KEY));
+    CHECK(refused(call(sealing, 8, block, 7, out, 7), CAPTIONS_WRONG_KEY));
+    for (key_len = 10; key_len <= 16; key_len += 6) {
+        CHECK(refused(call(sealing, key_len, block, 7, out, 8),
+                      CAPTIONS_WRONG_SPAN));
+        CHECK(refused(call(sealing, key_len, block, 0, out, 8),
+                      CAPTIONS_WRONG_SPAN));
+        CHECK(refused(call(sealing, key_len, block, 8, out, 7),
+                      CAPTIONS_WRONG_SPAN));
+        CHECK(refused(call(sealing, key_len, block, 8, out, 9),
+                      CAPTIONS_WRONG_SPAN));
+        CHECK(refused(call(sealing, key_len, block, 8, out, 0),
+                      CAPTIONS_WRONG_SPAN));
+    }
+    CHECK(all(out, sizeof out, UNTOUCHED));
 }
 
 /* The arrays after rounds 0, 5 and 12 of the block above under the key of 8
@@ -303,15 +379,15 @@ static captions_answer read_as(const uint8_t *sheet, size_t key_len,
 
 /* Blanking for keys of that many bytes. */
 static captions_answer blank_as(uint8_t *sheet, size_t sheet_len, size_t slots,
-                                size_t key_words, size_t key_len)
+                                size_t key_class, size_t key_len)
 {
-    return captions_blank(sheet, sheet_len, slots, key_words, SERIAL, sealing,
+    return captions_blank(sheet, sheet_len, slots, key_class, SERIAL, sealing,
                           key_len, checking, key_len);
 }
 
 /* Whether blanking is refused with this number whatever is wrong with the spans:
  * the slots, the sheet's bytes, or nothing. */
-static int blank_refused(int number, uint8_t *sheet, size_t key_words,
+static int blank_refused(int number, uint8_t *sheet, size_t key_class,
                          const uint8_t *sealing_key, size_t sealing_len,
                          const uint8_t *checking_key, size_t checking_len)
 {
@@ -321,7 +397,7 @@ static int blank_refused(int number, uint8_t *sheet, size_t key_words,
     int so = 1;
     for (i = 0; i < sizeof spans / sizeof spans[0]; i++)
         so = so && refused(captions_blank(sheet, spans[i][0], spans[i][1],
-                                          key_words, SERIAL, sealing_key,
+                                          key_class, SERIAL, sealing_key,
                                           sealing_len, checking_key,
                                           checking_len),
                            number);
@@ -365,22 +441,49 @@ static void blanking_refusals(void)
                   CAPTIONS_OTHER_KEY_CLASS));
     CHECK(refused(blank_as(sheet, SHEET, SLOTS, 6, 8),
                   CAPTIONS_OTHER_KEY_CLASS));
+    CHECK(blank_refused(CAPTIONS_TWIN_KEYS, sheet, CAPTIONS_PRESENT_80, sealing,
+                        8, sealing, 8));
+    CHECK(refused(blank_as(sheet, SHEET - 1, SLOTS, CAPTIONS_PRESENT_80, 16),
+                  CAPTIONS_WRONG_SPAN));
     CHECK(all(sheet, sizeof sheet, UNTOUCHED));
 }
 
+/* CMAC of one block with PRESENT, which no call makes: K1 is L doubled. */
+static void present_cmac(const uint8_t *key, size_t key_len,
+                         const uint8_t *message, uint8_t *mac)
+{
+    uint8_t zero[CAPTIONS_BLOCK] = {0}, l[CAPTIONS_BLOCK], last[CAPTIONS_BLOCK];
+    size_t i;
+    CHECK(accepted(
+        captions_present_encrypt_block(key, key_len, zero, 8, l, 8)));
+    for (i = 0; i < 8; i++)
+        last[i] = (uint8_t)(message[i] ^ (l[i] << 1 | (l[(i + 1) % 8] >> 7)));
+    /* The bit that is shifted out came in again on the right. */
+    last[7] ^= l[0] >> 7 ? 0x1b ^ 1 : 0;
+    CHECK(accepted(
+        captions_present_encrypt_block(key, key_len, last, 8, mac, 8)));
+}
+
 /* The header that blanking makes: the mark is the first six bytes of the CMAC of
- * slots, key words, edition, serial and two zero bytes, sealed. */
-static void make_header(uint8_t *header, size_t key_words, uint16_t serial)
+ * slots, key class, edition, serial and two zero bytes, sealed. */
+static void make_header(uint8_t *header, const struct class *class,
+                        uint16_t serial)
 {
     uint8_t plain_block[CAPTIONS_BLOCK] = {0, SLOTS, 0, 3}, mac[CAPTIONS_CHECK];
     uint8_t sealed[CAPTIONS_BLOCK];
-    size_t key_len = 2 * key_words;
-    plain_block[2] = (uint8_t)key_words;
+    size_t key_len = class->key_len;
+    plain_block[2] = (uint8_t)class->number;
     plain_block[4] = (uint8_t)(serial >> 8);
     plain_block[5] = (uint8_t)serial;
-    CHECK(accepted(captions_encrypt_block(sealing, key_len, plain_block, 8, 0,
-                                          sealed, 8)));
-    CHECK(accepted(captions_cmac(checking, key_len, sealed, 8, mac, 8)));
+    if (class < classes + MCRYPTON_CLASSES) {
+        CHECK(accepted(captions_encrypt_block(sealing, key_len, plain_block, 8,
+                                              0, sealed, 8)));
+        CHECK(accepted(captions_cmac(checking, key_len, sealed, 8, mac, 8)));
+    } else {
+        CHECK(accepted(captions_present_encrypt_block(
+            sealing, key_len, plain_block, 8, sealed, 8)));
+        present_cmac(checking, key_len, sealed, mac);
+    }
     memset(header, 0, CAPTIONS_HEADER);
     memcpy(header, plain_block, 4);
     memcpy(header + 8, plain_block + 4, 2);
@@ -391,34 +494,36 @@ static void blanking(void)
 {
     static const uint16_t serials[] = {0, 1, 255, 256, 65535, SERIAL};
     uint8_t sheet[SHEET + 1], header[CAPTIONS_HEADER];
-    size_t i, key_words;
+    size_t i, k;
     memset(sheet, UNTOUCHED, sizeof sheet);
     /* Each class and serial over the bytes of the sheet before. */
-    for (key_words = 4; key_words <= 8; key_words += 2)
+    for (k = 0; k < CLASSES; k++)
         for (i = 0; i < sizeof serials / sizeof serials[0]; i++) {
-            make_header(header, key_words, serials[i]);
-            CHECK(accepted(captions_blank(sheet, SHEET, SLOTS, key_words,
-                                          serials[i], sealing, 2 * key_words,
-                                          checking, 2 * key_words)));
+            size_t key_len = classes[k].key_len;
+            make_header(header, &classes[k], serials[i]);
+            CHECK(accepted(captions_blank(sheet, SHEET, SLOTS,
+                                          classes[k].number, serials[i],
+                                          sealing, key_len, checking,
+                                          key_len)));
             CHECK(same(sheet, header, CAPTIONS_HEADER));
             CHECK(all(sheet + CAPTIONS_HEADER, SHEET - CAPTIONS_HEADER, 0));
             CHECK(sheet[SHEET] == UNTOUCHED);
-            CHECK(accepted(write_as(sheet, 2 * key_words, 0, "Vase", 4)));
+            CHECK(accepted(write_as(sheet, key_len, 0, "Vase", 4)));
         }
 }
 
 /* A blank sheet of an edition; laid out here where no call makes it. */
 static void make_blank(const struct edition *edition, uint8_t *sheet,
-                       size_t key_words)
+                       const struct class *class)
 {
     if (edition->number == 3) {
         CHECK(accepted(
-            blank_as(sheet, SHEET, SLOTS, key_words, 2 * key_words)));
+            blank_as(sheet, SHEET, SLOTS, class->number, class->key_len)));
         return;
     }
     memset(sheet, 0, edition->size);
     sheet[1] = SLOTS;
-    sheet[2] = (uint8_t)key_words;
+    sheet[2] = (uint8_t)class->number;
     sheet[3] = edition->number;
     if (edition->number == 2) {
         sheet[8] = SERIAL >> 8;
@@ -426,19 +531,21 @@ static void make_blank(const struct edition *edition, uint8_t *sheet,
     }
 }
 
-/* A caption goes in and comes out, at each key length. */
-static void writing_and_reading(const struct edition *edition, size_t key_len)
+/* A caption goes in and comes out, in each key class. */
+static void writing_and_reading(const struct edition *edition,
+                                const struct class *class)
 {
     static const char first[] = "Vase, 1752", second[] = "Vase, 1751";
+    size_t key_len = class->key_len;
     uint8_t sheet[SHEET], before[SHEET], window[CAPTIONS_FIELD];
     uint8_t longest[CAPTIONS_FIELD];
     memset(longest, 'x', sizeof longest);
-    make_blank(edition, sheet, key_len / 2);
+    make_blank(edition, sheet, class);
     CHECK(accepted(write_as(sheet, key_len, 0, first, sizeof first - 1)));
     CHECK(sheet[7] == 1);
     CHECK(accepted(write_as(sheet, key_len, 2, longest, sizeof longest)));
     CHECK(accepted(write_as(sheet, key_len, 0, second, sizeof second - 1)));
-    make_blank(edition, before, key_len / 2);
+    make_blank(edition, before, class);
     before[7] = 3;
     CHECK(same(sheet, before, edition->header));
 
@@ -469,7 +576,7 @@ static void writing_and_reading(const struct edition *edition, size_t key_len)
 /* A sheet with a caption in slot 1, for keys of 8 bytes. */
 static void make_sheet(const struct edition *edition, uint8_t *sheet)
 {
-    make_blank(edition, sheet, 4);
+    make_blank(edition, sheet, &classes[0]);
     CHECK(accepted(write_as(sheet, 8, 1, "Clock", 5)));
 }
 
@@ -1057,6 +1164,150 @@ static void edition_rules(const struct edition *edition)
     CHECK(is(read_as(sheet, 8, 1, window), 0, 5));
 }
 
+/* ---- Key classes ---- */
+
+/* What a key of that many bytes comes to in the calls on blocks: mCrypton takes
+ * 8, 12 and 16, PRESENT 10 and 16. */
+static void keys_of_blocks(size_t key_len)
+{
+    int mcrypton = key_len == 8 || key_len == 12 || key_len == 16 ? 0 : 1;
+    int present = key_len == 10 || key_len == 16 ? 0 : 1;
+    uint8_t out[CAPTIONS_BLOCK];
+    memset(out, UNTOUCHED, sizeof out);
+    CHECK(is(captions_encrypt_block(sealing, key_len, block, 8, 0, out, 8),
+             mcrypton, 0));
+    CHECK(is(captions_decrypt_block(sealing, key_len, block, 8, 0, out, 8),
+             mcrypton, 0));
+    CHECK(is(captions_bench_block(sealing, key_len, 5, block, 8, out, 8),
+             mcrypton, 0));
+    CHECK(is(captions_cmac(sealing, key_len, block, 8, out, 8), mcrypton, 0));
+    CHECK(is(captions_panel(sealing, key_len, 1, block, 8, out, 8), mcrypton,
+             0));
+    CHECK(all(out, sizeof out, UNTOUCHED) == mcrypton);
+    memset(out, UNTOUCHED, sizeof out);
+    CHECK(is(captions_present_encrypt_block(sealing, key_len, block, 8, out,
+                                            8),
+             present, 0));
+    CHECK(is(captions_present_decrypt_block(sealing, key_len, block, 8, out,
+                                            8),
+             present, 0));
+    CHECK(all(out, sizeof out, UNTOUCHED) == present);
+}
+
+/* The same on a sheet of a class: 8, 10, 12 and 16 bytes pass the key test, and
+ * those that aren't the class's are another class. */
+static void keys_of_sheets(const struct edition *edition,
+                           const struct class *class, size_t key_len)
+{
+    uint8_t sheet[SHEET], before[SHEET], terms[TERMS];
+    int number = key_len == class->key_len ? CAPTIONS_ACCEPTED
+                 : key_len == 8 || key_len == 10 || key_len == 12 ||
+                         key_len == 16
+                     ? CAPTIONS_OTHER_KEY_CLASS
+                     : CAPTIONS_WRONG_KEY;
+    make_terms(terms);
+    make_blank(edition, sheet, class);
+    CHECK(accepted(write_as(sheet, class->key_len, 1, "Clock", 5)));
+    memcpy(before, sheet, edition->size);
+    CHECK(is(write_as(sheet, key_len, 1, "Clock", 5), number, 0));
+    CHECK(same(sheet, before, edition->size) == (number != 0));
+    CHECK(is(blank_as(before, edition->size, SLOTS, class->number, key_len),
+             edition->size == SHEET ? number
+             : number == CAPTIONS_WRONG_KEY ? number
+                                            : CAPTIONS_WRONG_SPAN,
+             0));
+    if (number == 0)
+        return;
+    CHECK(read_refused(number, sealing, key_len, checking, key_len, sheet,
+                       edition->size, 1, 192));
+    CHECK(dated_refused(number, key_len, checking, sheet, edition->size, terms,
+                        TERMS, 1, OPENING, 192));
+}
+
+static void keys_of_every_length(void)
+{
+    size_t key_len, i, k;
+    for (key_len = 7; key_len <= 17; key_len++) {
+        keys_of_blocks(key_len);
+        for (i = 0; i < EDITIONS; i++)
+            for (k = 0; k < (i == 2 ? CLASSES : MCRYPTON_CLASSES); k++)
+                keys_of_sheets(&editions[i], &classes[k], key_len);
+    }
+}
+
+/* A sheet of each class by a day and by its listing; the pair of another cipher
+ * with keys as long is other keys, and the pair itself under the other cipher's
+ * class, since the mark has the class. */
+static void sheets_of_classes(void)
+{
+    static const char lines[] = "0 blank\n1 written 1 5\n2 blank\n";
+    uint8_t sheet[SHEET], terms[TERMS], window[CAPTIONS_FIELD];
+    uint8_t out[CAPTIONS_LISTING];
+    size_t k, i;
+    make_terms(terms);
+    for (k = 0; k < CLASSES; k++) {
+        size_t key_len = classes[k].key_len, head = strlen(classes[k].listing);
+        make_blank(&editions[2], sheet, &classes[k]);
+        CHECK(accepted(write_as(sheet, key_len, 1, "Clock", 5)));
+        CHECK(captions_list(sheet, SHEET, out, sizeof out) ==
+              head + sizeof lines - 1);
+        CHECK(memcmp(out, classes[k].listing, head) == 0);
+        CHECK(memcmp(out + head, lines, sizeof lines - 1) == 0);
+        CHECK(is(plain(captions_dated_read(sealing, key_len, checking, key_len,
+                                           sheet, SHEET, terms, TERMS, 1,
+                                           OPENING, window, sizeof window)),
+                 0, 5));
+        CHECK(memcmp(window, "Clock", 5) == 0);
+        CHECK(dated_refused(CAPTIONS_NOT_ON_SHOW, key_len, checking, sheet,
+                            SHEET, terms, TERMS, 1, CLOSING + 1, 192));
+        CHECK(read_refused(CAPTIONS_OTHER_KEYS, checking, key_len, sealing,
+                           key_len, sheet, SHEET, 1, 192));
+        for (i = 0; i < CLASSES; i++) {
+            sheet[2] = (uint8_t)classes[i].number;
+            if (i != k)
+                CHECK(read_refused(classes[i].key_len == key_len
+                                       ? CAPTIONS_OTHER_KEYS
+                                       : CAPTIONS_OTHER_KEY_CLASS,
+                                   sealing, key_len, checking, key_len, sheet,
+                                   SHEET, 1, 192));
+        }
+        sheet[2] = (uint8_t)classes[k].number;
+        CHECK(accepted(captions_clear(sheet, SHEET, 1)));
+        CHECK(read_refused(CAPTIONS_BLANK, sealing, key_len, checking, key_len,
+                           sheet, SHEET, 1, 192));
+    }
+}
+
+/* Byte 2 at every value, in every edition and in two that there aren't: 21 and 24
+ * are fit in edition 3 alone. The rule comes before that of the edition. */
+static void every_class_byte(void)
+{
+    unsigned value, edition;
+    for (edition = 0; edition <= 4; edition++)
+        for (value = 0; value < 256; value++) {
+            uint8_t sheet[SHEET] = {0, SLOTS}, window[CAPTIONS_FIELD];
+            size_t size = edition == 1 ? CAPTIONS_SHEET_1(SLOTS) : SHEET;
+            int mcrypton = value == 4 || value == 6 || value == 8;
+            int present = (value == 21 || value == 24) && edition == 3;
+            captions_pointed answer;
+            sheet[2] = (uint8_t)value;
+            sheet[3] = (uint8_t)edition;
+            answer = captions_read(sealing, 10, checking, 10, sheet, size, 0,
+                                   window, sizeof window);
+            CHECK(answer.number == (!mcrypton && !present ? CAPTIONS_UNFIT_SHEET
+                                    : edition < 1 || edition > 3
+                                        ? CAPTIONS_UNFIT_SHEET
+                                    : value == CAPTIONS_PRESENT_80
+                                        ? CAPTIONS_OTHER_KEYS
+                                        : CAPTIONS_OTHER_KEY_CLASS));
+            CHECK(answer.rule == (!mcrypton && !present
+                                      ? CAPTIONS_RULE_KEY_WORDS
+                                  : edition < 1 || edition > 3
+                                      ? CAPTIONS_RULE_EDITION
+                                      : CAPTIONS_RULE_NONE));
+        }
+}
+
 /* ---- Listings and words ---- */
 
 /* The listing, in an output of exactly its size, a larger one, one too small. */
@@ -1313,9 +1564,9 @@ static void words(void)
 
 static void sheets_of(const struct edition *edition)
 {
-    writing_and_reading(edition, 8);
-    writing_and_reading(edition, 12);
-    writing_and_reading(edition, 16);
+    size_t i;
+    for (i = 0; i < (edition->number == 3 ? CLASSES : MCRYPTON_CLASSES); i++)
+        writing_and_reading(edition, &classes[i]);
     start_block(edition);
     write_refusals(edition);
     clear_refusals(edition);
@@ -1335,6 +1586,9 @@ int main(void)
     blocks_by_every_path();
     block_refusals(captions_encrypt_block);
     block_refusals(captions_decrypt_block);
+    present_vectors();
+    present_refusals(captions_present_encrypt_block);
+    present_refusals(captions_present_decrypt_block);
     bench();
     panel();
     checks_by_cmac();
@@ -1344,6 +1598,9 @@ int main(void)
     blanking_refusals();
     for (i = 0; i < EDITIONS; i++)
         sheets_of(&editions[i]);
+    keys_of_every_length();
+    sheets_of_classes();
+    every_class_byte();
     listing();
     term_sheets();
     rule_words();

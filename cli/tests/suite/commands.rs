@@ -7,18 +7,28 @@ use std::fs;
 use std::path::Path;
 use std::process::Command;
 
-const CLASSES: [(usize, &str); 3] = [(8, "64"), (12, "96"), (16, "128")];
+/// Byte 2, the bytes of a key, and the word for blanking.
+const CLASSES: [(usize, usize, &str); 8] = [
+    (4, 8, "64"),
+    (6, 12, "96"),
+    (8, 16, "128"),
+    (4, 8, "mcrypton-64"),
+    (6, 12, "mcrypton-96"),
+    (8, 16, "mcrypton-128"),
+    (21, 10, "present-80"),
+    (24, 16, "present-128"),
+];
 
 #[test]
 fn blank_makes_the_second_programs_sheet() {
     let scratch = Scratch::new();
-    for (key_len, bits) in CLASSES {
+    for (class, key_len, cipher) in CLASSES {
         for (slots, serial) in [1, 2, 17, 255, 256].into_iter().zip(Edition::SERIALS) {
-            let file = scratch.join(format!("{slots}-{bits}.sheet"));
+            let file = scratch.join(format!("{slots}-{cipher}.sheet"));
             let [n, number] = [slots.to_string(), serial.to_string()];
             let keys = shared_keys(key_len);
-            run(&words!["blank", file, n, bits, number, keys]).done();
-            let expected = blank_sheet_with(slots, key_len / 2, serial);
+            run(&words!["blank", file, n, cipher, number, keys]).done();
+            let expected = blank_sheet_with(slots, class, serial);
             assert_eq!(fs::read(file).unwrap(), expected);
         }
     }
@@ -38,10 +48,10 @@ fn write(file: &Path, slot: usize, keys: &Path, caption: &[u8]) {
 #[test]
 fn write_stores_what_the_second_program_stores() {
     let scratch = Scratch::new();
-    for (key_len, _) in CLASSES {
-        let file = scratch.sheet("sheet", 3, key_len / 2);
+    for (class, key_len, _) in CLASSES {
+        let file = scratch.sheet("sheet", 3, class);
         let keys = scratch.keys(key_len);
-        let mut sheet = blank_sheet(3, key_len / 2);
+        let mut sheet = blank_sheet(3, class);
         let longest: String = ('\u{80}'..'\u{e0}').collect();
         let captions: [(usize, &[u8]); 5] = [
             (0, b"Vase, 1752"),

@@ -49,8 +49,8 @@ fn help_as_people_ask_for_it() {
     run(&["help", "open"]).failed(64, "no command open");
     run(&["help", "list", "read"]).failed(64, "help takes one command");
     run(&["list", "--", "--help"]).failed(66, "--help: No such file");
-    assert_eq!(printed(&["--version"]), "captions 0.7.0\n");
-    assert_eq!(printed(&["-V"]), "captions 0.7.0\n");
+    assert_eq!(printed(&["--version"]), "captions 0.7.1\n");
+    assert_eq!(printed(&["-V"]), "captions 0.7.1\n");
 }
 
 /// A section's items: terms, and texts with their lines joined.
@@ -139,7 +139,7 @@ fn help_has_every_status_and_what_a_sheet_cannot_tell() {
         "after a day where another machine made it",
         "neither sealed nor checked",
         "its serial was changed",
-        "One pair of keys\nserves a sheet, the pair that it was blanked with",
+        "One pair of keys serves a sheet, the pair\nthat it was blanked with",
         "nothing stops a write under another pair",
     ] {
         assert!(all.contains(words), "{words}");

@@ -14,9 +14,15 @@ use std::process::Command;
 fn a_pair_of_keys_is_made() {
     let scratch = Scratch::new();
     let mut seen = HashSet::new();
-    for (bits, digits) in [("64", 16), ("96", 24), ("128", 32)] {
+    for (bits, cipher, digits) in [
+        ("64", "64", 16),
+        ("80", "present-80", 20),
+        ("96", "96", 24),
+        ("128", "128", 32),
+        ("128", "present-128", 32),
+    ] {
         for count in 0..20 {
-            let keys = scratch.join(format!("{bits}-{count}.keys"));
+            let keys = scratch.join(format!("{cipher}-{count}.keys"));
             run(&words!["keys", keys, bits]).done();
             assert_eq!(mode(&keys), 0o600);
             let text = fs::read_to_string(&keys).unwrap();
@@ -32,7 +38,7 @@ fn a_pair_of_keys_is_made() {
                 "blank",
                 file,
                 "1",
-                bits,
+                cipher,
                 "1",
                 keys,
                 "--force",
@@ -55,7 +61,8 @@ fn keys_have_the_lengths_that_the_library_takes() {
         "8",
         "63",
         "65",
-        "80",
+        "79",
+        "81",
         "112",
         "256",
         "99999999999999999999999",

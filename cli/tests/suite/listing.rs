@@ -76,16 +76,22 @@ fn json_says_what_the_text_says() {
     let scratch = Scratch::new();
     let file = scratch.join("sheet");
     let mut random = Random(64);
-    for (slots, words) in [(1, 4), (2, 6), (17, 8), (255, 4), (256, 8)] {
-        let mut sheet = blank_sheet(slots, words);
+    for (slots, class, key_len) in [
+        (1, 4, 8),
+        (2, 6, 12),
+        (17, 8, 16),
+        (255, 21, 10),
+        (256, 24, 16),
+    ] {
+        let mut sheet = blank_sheet(slots, class);
         for _ in 0..slots / 2 {
             let slot = random.below(slots as u64) as usize;
             let length = random.below(193) as usize;
-            sheet = written(&sheet, 2 * words, slot, &vec![b'x'; length]);
+            sheet = written(&sheet, key_len, slot, &vec![b'x'; length]);
         }
         fs::write(&file, &sheet).unwrap();
         let json = String::from_utf8(run(&words!["list", file, "--json"]).stdout).unwrap();
-        let keys = scratch.keys(2 * words);
+        let keys = scratch.keys(key_len);
         let verified = run(&words!["verify", file, keys, "--json"]);
         let verified = String::from_utf8(verified.stdout).unwrap();
         let plain = |line: &str| {

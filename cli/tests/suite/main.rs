@@ -17,6 +17,7 @@ mod map;
 mod no_work_lost;
 mod one_pair;
 mod panel;
+mod present;
 mod reasons;
 mod refusals;
 mod streams;

@@ -60,16 +60,20 @@ fn a_refusal_says_what_was_given_and_what_is_allowed() {
         "overlong: 194 bytes, where a caption has at most 192: 2 too many",
     );
 
-    let bits = "wrong key: BITS is 64, 96 or 128, not 100";
-    run(&words!["blank", new, "4", "100", "1", keys]).refused(1, bits);
-    run(&words!["keys", new, "100"]).refused(1, bits);
+    let cipher = "wrong key: CIPHER is 64, 96 or 128 for mCrypton, present-80 or present-128";
+    let words = format!("{cipher}, not 100");
+    run(&words!["blank", new, "4", "100", "1", keys]).refused(1, &words);
+    let words = "wrong key: CIPHER is present-80, not 80";
+    run(&words!["blank", new, "4", "80", "1", keys]).refused(1, words);
+    let words = "wrong key: BITS is 64, 80, 96 or 128, not 100";
+    run(&words!["keys", new, "100"]).refused(1, words);
     let odd = place.scratch.key_file("odd", &[7; 9], &[8; 9]);
-    let words = "wrong key: keys of 9 bytes, where there are 8, 12 and 16";
+    let words = "wrong key: keys of 9 bytes, where there are 8, 10, 12 and 16";
     run(&words!["read", sheet, "0", odd]).refused(1, words);
     run(&words!["blank", new, "4", "64", "1", odd]).refused(1, words);
     let unlike = place.scratch.key_file("unlike", &[7; 8], &[8; 12]);
     let words = "wrong key: a sealing key of 8 bytes and a checking key of 12; \
-                 both have 8, both 12 or both 16";
+                 both have 8, both 10, both 12 or both 16";
     run(&words!["verify", sheet, unlike]).refused(1, words);
 
     let words = "wrong span: SLOTS is 1 to 256, not 257";
@@ -77,11 +81,14 @@ fn a_refusal_says_what_was_given_and_what_is_allowed() {
     run(&words!["terms-blank", new, "257"]).refused(3, words);
 
     let long = place.scratch.keys(16);
-    let words = "other key class: keys of 128 bits, where the sheet is for keys of 64";
+    let words = "other key class: keys of 16 bytes, where the sheet's cipher, \
+                 mCrypton with 64 bits, has 8";
     run(&words!["read", sheet, "0", long]).refused(5, words);
     run(&words!["export", sheet, long]).refused(5, words);
-    run(&words!["blank", new, "4", "64", "1", long])
-        .refused(5, "other key class: keys of 128 bits, where BITS is 64");
+    let words = "other key class: keys of 16 bytes, where CIPHER, mCrypton with 64 bits, has 8";
+    run(&words!["blank", new, "4", "64", "1", long]).refused(5, words);
+    let words = "other key class: keys of 16 bytes, where CIPHER, PRESENT with 80 bits, has 10";
+    run(&words!["blank", new, "4", "present-80", "1", long]).refused(5, words);
 
     let key = place.scratch.join("key");
     fs::write(&key, "0d2a4764819ebbd8\n").unwrap();

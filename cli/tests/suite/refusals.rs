@@ -45,7 +45,17 @@ fn wrong_key() {
             "wrong key",
         );
     }
-    let wrong = [(7, 7), (9, 9), (8, 12), (16, 8), (0, 0), (13, 13), (17, 17)];
+    let wrong = [
+        (7, 7),
+        (9, 9),
+        (11, 11),
+        (8, 10),
+        (8, 12),
+        (16, 8),
+        (0, 0),
+        (13, 13),
+        (17, 17),
+    ];
     for (sealing, checking) in wrong {
         let keys = scratch.key_file("keys", &vec![1; sealing], &vec![2; checking]);
         let blank = words!["blank", file, "2", "64", "1", keys, "--force"];

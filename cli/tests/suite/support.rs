@@ -70,9 +70,9 @@ impl Scratch {
     }
 
     /// A blank sheet's file, made by the second program.
-    pub fn sheet(&self, name: &str, slots: usize, key_words: usize) -> PathBuf {
+    pub fn sheet(&self, name: &str, slots: usize, class: usize) -> PathBuf {
         let path = self.join(name);
-        fs::write(&path, blank_sheet(slots, key_words)).unwrap();
+        fs::write(&path, blank_sheet(slots, class)).unwrap();
         path
     }
 }
@@ -118,7 +118,7 @@ pub fn shared_keys(length: usize) -> PathBuf {
     let folder = Path::new(env!("CARGO_TARGET_TMPDIR"));
     let file = |length: usize| folder.join(format!("keys-{length}"));
     MADE.get_or_init(|| {
-        for length in [8, 12, 16] {
+        for length in [8, 10, 12, 16] {
             let [sealing, checking] = [SEALING, CHECKING].map(|key| hex(&key[..length]));
             fs::write(file(length), format!("{sealing}\n{checking}\n")).unwrap();
             set_mode(&file(length), 0o600);
@@ -130,16 +130,17 @@ pub fn shared_keys(length: usize) -> PathBuf {
 /// The edition of `blank_sheet`, and of `captions blank` with the serial 1.
 pub const EDITION: Edition = Edition::Three(1);
 
-pub fn blank_sheet(slots: usize, key_words: usize) -> Vec<u8> {
-    blank_sheet_with(slots, key_words, 1)
+pub fn blank_sheet(slots: usize, class: usize) -> Vec<u8> {
+    blank_sheet_with(slots, class, 1)
 }
 
 /// A sheet as a blanking by the second program makes it, for the keys of its
 /// class.
-pub fn blank_sheet_with(slots: usize, key_words: usize, serial: u16) -> Vec<u8> {
+pub fn blank_sheet_with(slots: usize, class: usize, serial: u16) -> Vec<u8> {
     let mut sheet = vec![0; Edition::BLANKED.sheet_length(slots)];
-    let [sealing, checking] = [&SEALING, &CHECKING].map(|key| &key[..2 * key_words]);
-    let answer = reference::blank(&mut sheet, slots, key_words, serial, sealing, checking);
+    let length = reference::class::key_bytes(class).unwrap();
+    let [sealing, checking] = [&SEALING, &CHECKING].map(|key| &key[..length]);
+    let answer = reference::blank(&mut sheet, slots, class, serial, sealing, checking);
     assert_eq!(answer.number, 0);
     sheet
 }

@@ -139,7 +139,7 @@ fn a_hint_at_other_keys() {
     let scratch = Scratch::new();
     let file = scratch.sheet("sheet", 1, 4);
     let keys = scratch.key_file("other", &[1; 8], &[2; 8]);
-    let hint = "captions: the sheet was blanked with other keys, or its serial or mark was changed";
+    let hint = "captions: the sheet was blanked with other keys, or its cipher, serial or mark was changed";
     for words in [
         words!["read", file, "0", keys].to_vec(),
         words!["write", file, "0", keys, "--text", "Vase"].to_vec(),

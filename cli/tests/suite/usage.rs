@@ -111,7 +111,8 @@ fn a_number_is_decimal_digits() {
         run(&words!["read", file, word, keys]).failed(64, "SLOT is a decimal number");
         run(&words!["write", file, word, keys]).failed(64, "SLOT is a decimal number");
         run(&words!["blank", file, word, "64", "1", keys]).failed(64, "SLOTS is a decimal number");
-        run(&words!["blank", file, "2", word, "1", keys]).failed(64, "BITS is a decimal number");
+        run(&words!["blank", file, "2", word, "1", keys]).failed(64, "CIPHER is 64, 96 or");
+        run(&words!["keys", file, word]).failed(64, "BITS is a decimal number");
         run(&words!["blank", file, "2", "64", word, keys]).failed(64, "SERIAL is a decimal number");
     }
     run(&words!["clear", file, "-1"]).failed(64, "no option -1");
@@ -133,7 +134,7 @@ fn a_serial_is_0_to_65535() {
         (&["99999999999999999999999"], "SERIAL is 0 to 65535"),
         (&["-1"], "no option -1"),
         (&["--", "-1"], "SERIAL is a decimal number, not -1"),
-        (&[], "usage: captions blank FILE SLOTS BITS SERIAL KEYS"),
+        (&[], "usage: captions blank FILE SLOTS CIPHER SERIAL KEYS"),
     ] {
         let mut serial: Vec<_> = serial.iter().map(std::ffi::OsString::from).collect();
         serial.push(keys.clone().into());

@@ -14,7 +14,7 @@ use Rattle.octets.proofs.EveryByte.{append-bytes}
 use Rattle.octets.proofs.Numbers.{length-be, be-bytes, number-be, number-part-lt}
 use Rattle.octets.proofs.Parts.{length-part, part-add, part-all, part-append-left, part-append-right, part-append-head, part-append-tail}
 use Rattle.octets.proofs.Zeros.{length-zeros, zeros-bytes, zeros-append, part-zeros, allZero-zeros, allZero-is}
-use Rattle.cipher.specs.Key.{mcryptonClass}
+use Rattle.cipher.specs.Key.{mcryptonClass, classKnown}
 use Rattle.cipher.proofs.Promise.{class-small, mcrypton-known}
 use Rattle.layout.specs.Layout.{Edition, edition1, edition2, edition3, rule1, rule2, rule3, slots, keyClass, editionByte, lastWrite, serial, storedMark, sheetSize, markAt, fieldAt, slotCount, mark, field, blankSlot, fitSlot, fitIn, firstEight, blankSlots, blankSheet1, serialHeader, blankSheet2, blankHeader, blankSheet}
 use Rattle.layout.proofs.Header.{count-high}
@@ -243,16 +243,16 @@ module _ (v n t x : ℕ) (m : List ℕ) (six : length m ≡ 6) where
   made-six = header-part (serialHeader v n t x m) n 10 6 (omega (arith, head-length)) ∙ head-six
 
   -- an edition with such a header, by its rule
-  header-of : (e : Edition) → e .header ≡ 16 → v < 256 → Bytes m → slotCount n ≡ true → mcryptonClass t ≡ true
+  header-of : (e : Edition) → e .header ≡ 16 → v < 256 → Bytes m → slotCount n ≡ true → classKnown t ≡ true
       → (keyClass (serialHeader v n t x m) ≡ t → editionByte (serialHeader v n t x m) ≡ v → e .rule (serialHeader v n t x m) ≡ true)
       → Header e n t (serialHeader v n t x m)
   unfolding slots keyClass editionByte lastWrite
   header-of e size low b count class rule =
-      let is : keyClass (serialHeader v n t x m) ≡ t = ap number (head-part 2 1 (omega arith)) ∙ eight-class v n t (small n t count class) in
+      let is : keyClass (serialHeader v n t x m) ≡ t = ap number (head-part 2 1 (omega arith)) ∙ eight-class v n t (class-small t class) in
       record {
         size = head-length ∙ sym size;
         bytes = head-bytes b;
-        count = ap number (head-part 0 2 (omega arith)) ∙ eight-slots v n t (few n t count class);
+        count = ap number (head-part 0 2 (omega arith)) ∙ eight-slots v n t (count-high n count);
         class = is;
         last = ap number (head-part 4 4 (omega arith)) ∙ eight-last v n t;
         rule = rule is (ap number (head-part 3 1 (omega arith)) ∙ eight-edition v n t low);
@@ -296,7 +296,7 @@ module _ (n t x : ℕ) where
   unfolding blankSheet2 rule2
   made-2 count class =
       made edition2 edition2-regular n t (serialHeader 2 n t x (zeros 6))
-      (header-of 2 n t x (zeros 6) (length-zeros 6) edition2 refl (omega arith) (zeros-bytes 6) count class
+      (header-of 2 n t x (zeros 6) (length-zeros 6) edition2 refl (omega arith) (zeros-bytes 6) count (mcrypton-known t class)
       (λ is edition. rw (is, class, edition, head-six 2 n t x (zeros 6) (length-zeros 6), allZero-zeros 6))) count
 
 module _ (s : List ℕ) (b : Bytes s) (r : Rules edition2 s) (unused : lastWrite s ≡ 0) where
@@ -316,7 +316,7 @@ module _ (s : List ℕ) (b : Bytes s) (r : Rules edition2 s) (unused : lastWrite
 
 pub byte-three : (s : List ℕ) → rule3 s ≡ true → editionByte s ≡ 3
 unfolding rule3
-byte-three s h = eqb-true (editionByte s) 3 (and-right (mcryptonClass (keyClass s)) _ h)
+byte-three s h = eqb-true (editionByte s) 3 (and-right (classKnown (keyClass s)) _ h)
 
 module _ (n t x : ℕ) (m : List ℕ) (six : length m ≡ 6) where
   pub serial-3 : x < 65536 → serial (blankSheet n t x m) ≡ x
@@ -327,7 +327,7 @@ module _ (n t x : ℕ) (m : List ℕ) (six : length m ≡ 6) where
   unfolding storedMark blankSheet blankHeader
   mark-3 = made-six 3 n t x m six
 
-  pub made-3 : Bytes m → slotCount n ≡ true → mcryptonClass t ≡ true → Made edition3 n t (blankSheet n t x m)
+  pub made-3 : Bytes m → slotCount n ≡ true → classKnown t ≡ true → Made edition3 n t (blankSheet n t x m)
   unfolding blankSheet blankHeader rule3
   made-3 b count class =
       made edition3 edition3-regular n t (serialHeader 3 n t x m)

@@ -7,7 +7,7 @@ use Rattle.octets.specs.Bytes.{Bytes}
 use Rattle.octets.proofs.EveryByte.{append-bytes, part-bytes}
 use Rattle.octets.proofs.Numbers.{length-be, be-bytes}
 use Rattle.octets.proofs.Parts.{length-part}
-use Rattle.cipher.specs.Promise.{ByteBlock}
+use Rattle.octets.specs.Block.{ByteBlock}
 use Rattle.modes.specs.CMAC.{cmac}
 use Rattle.modes.proofs.Authentication.{cmac-laws}
 use Rattle.captions.specs.Captions.{Ciphers, markBlock, keyMark}

@@ -12,37 +12,37 @@ use borrow.Author.Tests.{eq-eqb, ne-eqb, eqb-true, leb-false, not-true, not-fals
 use Rattle.octets.specs.Bytes.{if_then_else_, number, zeros, allZero, same, allBelow, be}
 use Rattle.octets.specs.Outcome.{decided}
 use Rattle.octets.specs.Clauses.{Exactly, OneOf, Each, none, and}
-use Rattle.octets.proofs.Clauses.{Reflects, reflects-not, reflects-and, reflects-or, reflects-as, reflects-eqb, reflects-three, reflects-leb, reflects-ltb, reflects-same, Means, Refuses, decided-exactly, decided-refused, decided-zero}
+use Rattle.octets.proofs.Clauses.{Reflects, reflects-not, reflects-and, reflects-or, reflects-as, reflects-eqb, reflects-leb, reflects-ltb, reflects-same, Means, Refuses, decided-exactly, decided-refused, decided-zero}
 use Rattle.octets.proofs.Compare.{same-is, same-eq}
 use Rattle.octets.proofs.Zeros.{allZero-is, getD-zeros}
 use Rattle.text.specs.Grammar.{forms, inside, after, some, meets, wellFormed}
 use Rattle.text.proofs.Grammar.{reflects-utf8}
-use Rattle.cipher.specs.Key.{mcryptonClass, classKnown, keyBytes, sheetKeyLength}
+use Rattle.cipher.specs.Key.{mcryptonClass, presentClass, classKnown, keyBytes, sheetKeyLength}
 use Rattle.layout.specs.Layout.{Edition, newEdition, editionOf, rule1, rule3, slots, keyClass, editionByte, lastWrite, serial, storedMark, slotCount, sheetSize, markAt, fieldAt, markNumber, markLength, markCheck, mark, field, blankSlot, fitSlot, fitIn, fit, blankSheet}
-use Rattle.layout.specs.Rules.{Words, MeetsLayout}
+use Rattle.layout.specs.Rules.{Classes, KeyFits, MeetsLayout}
 use Rattle.layout.proofs.Header.{edition-cases}
 use Rattle.layout.proofs.Fits.{fit-rules}
-use Rattle.layout.proofs.Meaning.{reflects-fit, reflects-blank, reflects-words}
+use Rattle.layout.proofs.Meaning.{reflects-fit, reflects-blank, reflects-classes, reflects-fits}
 use Rattle.captions.specs.Answers.{Outcome, answerNumber, answerLength, outcome}
 use Rattle.captions.specs.Captions.{Keys, pair, Ciphers, loadedFor, markFor, keyMark, otherKeys, checkOf, opened, altered}
 use Rattle.captions.specs.Calls.{wrongKeys, otherClass, keyTests, captionTests, classTests, sheetTests, windowTests, openTests, writeTests, clearTests, readTests, blankTests, writingWith, clearingWith, readingWith, blankingWith, writing, clearing, reading, blanking}
-use Rattle.captions.specs.Refusals.{RightKeys, RightWords, OtherMark, IsAltered, check-differs, byte-left, writeClauses, clearClauses, readClauses, blankClauses, Leaves, WriteOf, ClearOf, ReadOf, BlankOf, SheetRefusals}
+use Rattle.captions.specs.Refusals.{RightKeys, RightClass, OtherMark, IsAltered, check-differs, byte-left, writeClauses, clearClauses, readClauses, blankClauses, Leaves, WriteOf, ClearOf, ReadOf, BlankOf, SheetRefusals}
 use Rattle.captions.proofs.Accepted.{zero-read, zero-write, zero-clear, zero-blank}
 use Rattle.captions.specs.declared.Answer.{Answer}
 use Rattle.captions.specs.declared.Answer.the-variants.{Accepted, WrongKey, TwinKeys, WrongSpan, UnfitSheet, OtherKeyClass, NoSuchSlot, Overlong, Worn, Blank, Altered, OtherKeys, BrokenText}
 
 -- ---- the keys
 
-reflects-length : (n : ℕ) → Reflects (sheetKeyLength n) (OneOf (8 ∷ 12 ∷ 16 ∷ []) n)
-unfolding sheetKeyLength
-reflects-length n = reflects-three n 8 12 16
+reflects-length : (n : ℕ) → Reflects (sheetKeyLength n) (OneOf (8 ∷ 10 ∷ 12 ∷ 16 ∷ []) n)
+unfolding sheetKeyLength OneOf
+reflects-length n = reflects-or (reflects-eqb n 8) (reflects-or (reflects-eqb n 10) (reflects-or (reflects-eqb n 12) (reflects-eqb n 16)))
 
 -- the test looks at both lengths, and then whether they are the same
 pub reflects-keys : (k : Keys) → Reflects (wrongKeys k) (RightKeys k → ⊥)
 unfolding wrongKeys
 reflects-keys k =
     reflects-not
-    (reflects-as (λ h. (h .0, sym (h .1 .1))) (λ r. (r .0, (subst (OneOf (8 ∷ 12 ∷ 16 ∷ [])) (sym (r .1)) (r .0), sym (r .1))))
+    (reflects-as (λ h. (h .0, sym (h .1 .1))) (λ r. (r .0, (subst (OneOf (8 ∷ 10 ∷ 12 ∷ 16 ∷ [])) (sym (r .1)) (r .0), sym (r .1))))
     (reflects-and (reflects-length (length (k .sealing))) (reflects-and (reflects-length (length (k .checking))) (reflects-eqb (length (k .sealing)) (length (k .checking))))))
 
 -- ---- the sheet and the slot
@@ -51,9 +51,9 @@ pub reflects-unfit : (s : List ℕ) → Reflects (not (fitIn (editionOf s) s)) (
 unfolding fit
 reflects-unfit s = reflects-not (reflects-fit s)
 
-pub reflects-class : (k : Keys) (s : List ℕ) → Reflects (otherClass k s) (length (k .sealing) ≡ keyBytes (keyClass s) → ⊥)
+pub reflects-class : (k : Keys) (s : List ℕ) → Reflects (otherClass k s) (KeyFits (length (k .sealing)) (keyClass s) → ⊥)
 unfolding otherClass
-reflects-class k s = reflects-not (reflects-eqb (length (k .sealing)) (keyBytes (keyClass s)))
+reflects-class k s = reflects-not (reflects-fits (length (k .sealing)) (keyClass s))
 
 -- edition 3 alone has a key mark
 keyed-three : (s : List ℕ) → editionOf s .keyed ≡ eqb (editionByte s) 3
@@ -184,18 +184,18 @@ read-means k s i window = (
 )
 
 -- wrong keys, or a wrong t
-reflects-keys-words : (k : Keys) (t : ℕ) → Reflects (wrongKeys k || not (mcryptonClass t)) (RightWords k t → ⊥)
-reflects-keys-words k t = go (wrongKeys k) (not (mcryptonClass t)) (reflects-keys k) (reflects-not (reflects-words t))
+reflects-keys-class : (k : Keys) (t : ℕ) → Reflects (wrongKeys k || not (classKnown t)) (RightClass k t → ⊥)
+reflects-keys-class k t = go (wrongKeys k) (not (classKnown t)) (reflects-keys k) (reflects-not (reflects-classes t))
   where
-    go : (a b : Bool) → Reflects a (RightKeys k → ⊥) → Reflects b (Words t → ⊥) → Reflects (a || b) (RightWords k t → ⊥)
+    go : (a b : Bool) → Reflects a (RightKeys k → ⊥) → Reflects b (Classes t → ⊥) → Reflects (a || b) (RightClass k t → ⊥)
     go true b p q = record { holds = λ e r. p .holds refl (r .0); fails = λ e. absurd (false≢true (sym e)) }
     go false true p q = record { holds = λ e r. q .holds refl (r .1); fails = λ e. absurd (false≢true (sym e)) }
     go false false p q = record { holds = λ e. absurd (false≢true e); fails = λ e h. p .fails refl (λ r. q .fails refl (λ w. h (r, w))) }
 
 blank-means : (k : Keys) (s : List ℕ) (n t : ℕ) → Means answerNumber (blankTests k s n t) (blankClauses k s n t)
-unfolding Means blankTests blankClauses answerNumber classKnown slotCount sheetSize
+unfolding Means blankTests blankClauses answerNumber slotCount sheetSize
 blank-means k s n t = (
-  reflects-keys-words k t,
+  reflects-keys-class k t,
   refl,
   λ t₁. (
     reflects-same (k .sealing) (k .checking),
@@ -205,7 +205,7 @@ blank-means k s n t = (
           (reflects-as (λ h. (h .0 .0, h .0 .1, h .1)) (λ b. ((b .0, b .1), b .2))
           (reflects-and (reflects-and (reflects-leb 1 n) (reflects-leb n 256)) (reflects-eqb (length s) (16 + 208 * n)))),
       refl,
-      λ t₃. (reflects-not (reflects-eqb (length (k .sealing)) (keyBytes t)), refl, λ t₅. tt),
+      λ t₃. (reflects-not (reflects-fits (length (k .sealing)) t), refl, λ t₅. tt),
     ),
   ),
 )
@@ -318,11 +318,11 @@ own-mark = keyMark (loadedFor 4 (keys-of 8)) 1 4 0
 
 module _ (a : ℕ) (d : same own-mark (replicate 6 a) ≡ false) where
   other-write : (writing (keys-of 8) (keyed-with a) 0 []) .number ≡ 14
-  unfolding own-mark keyed-with keys-of writing writingWith writeTests keyTests sheetTests classTests captionTests decided outcome answerNumber wrongKeys otherClass otherKeys markFor storedMark serial sheetKeyLength keyBytes mcryptonClass same number zeros allZero allBelow slots keyClass editionByte lastWrite rule3 editionOf sheetSize markAt fieldAt slotCount mark field blankSlot fitSlot fitIn
+  unfolding own-mark keyed-with keys-of writing writingWith writeTests keyTests sheetTests classTests captionTests decided outcome answerNumber wrongKeys otherClass otherKeys markFor storedMark serial sheetKeyLength keyBytes classKnown mcryptonClass same number zeros allZero allBelow slots keyClass editionByte lastWrite rule3 editionOf sheetSize markAt fieldAt slotCount mark field blankSlot fitSlot fitIn
   other-write = rw d
 
   other-read : (reading (keys-of 8) (keyed-with a) 0 (zeros 192)) .number ≡ 14
-  unfolding own-mark keyed-with keys-of reading readingWith readTests openTests windowTests keyTests sheetTests classTests decided outcome answerNumber wrongKeys otherClass otherKeys markFor storedMark serial sheetKeyLength keyBytes mcryptonClass same number zeros allZero allBelow slots keyClass editionByte lastWrite rule3 editionOf sheetSize markAt fieldAt slotCount mark field blankSlot fitSlot fitIn
+  unfolding own-mark keyed-with keys-of reading readingWith readTests openTests windowTests keyTests sheetTests classTests decided outcome answerNumber wrongKeys otherClass otherKeys markFor storedMark serial sheetKeyLength keyBytes classKnown mcryptonClass same number zeros allZero allBelow slots keyClass editionByte lastWrite rule3 editionOf sheetSize markAt fieldAt slotCount mark field blankSlot fitSlot fitIn
   other-read = rw d
 
 -- a mark that isn't theirs, on a sheet that meets the layout
@@ -330,7 +330,7 @@ pub other : ℕ
 other = unlike-byte own-mark
 
 pub keyed-meets : MeetsLayout (keyed-with other)
-unfolding keyed-with fit fitIn editionOf rule3 mcryptonClass number zeros allZero allBelow slots keyClass editionByte lastWrite sheetSize markAt fieldAt slotCount mark field blankSlot fitSlot
+unfolding keyed-with fit fitIn editionOf rule3 classKnown mcryptonClass number zeros allZero allBelow slots keyClass editionByte lastWrite sheetSize markAt fieldAt slotCount mark field blankSlot fitSlot
 keyed-meets = reflects-fit (keyed-with other) .holds refl
 
 pub keyed-slots : slots (keyed-with other) ≡ 1
@@ -378,13 +378,13 @@ every-read =
     none)))))))
 
 every-blank : Each BlankOf (0 ∷ 1 ∷ 2 ∷ 3 ∷ 5 ∷ [])
-unfolding keys-of blanking blankingWith blankTests decided outcome answerNumber wrongKeys sheetKeyLength keyBytes same classKnown mcryptonClass slotCount sheetSize zeros
+unfolding keys-of blanking blankingWith blankTests decided outcome answerNumber wrongKeys sheetKeyLength keyBytes same classKnown mcryptonClass presentClass slotCount sheetSize zeros
 every-blank =
-    and (record { keys = keys-of 8; sheet = zeros 224; count = 1; words = 4; serial = 1; answers = refl })
-    (and (record { keys = keys-of 8; sheet = zeros 224; count = 1; words = 5; serial = 1; answers = refl })
-    (and (record { keys = pair (zeros 8) (zeros 8); sheet = zeros 224; count = 1; words = 4; serial = 1; answers = refl })
-    (and (record { keys = keys-of 8; sheet = zeros 216; count = 1; words = 4; serial = 1; answers = refl })
-    (and (record { keys = keys-of 8; sheet = zeros 224; count = 1; words = 6; serial = 1; answers = refl })
+    and (record { keys = keys-of 8; sheet = zeros 224; count = 1; class = 4; serial = 1; answers = refl })
+    (and (record { keys = keys-of 8; sheet = zeros 224; count = 1; class = 5; serial = 1; answers = refl })
+    (and (record { keys = pair (zeros 8) (zeros 8); sheet = zeros 224; count = 1; class = 4; serial = 1; answers = refl })
+    (and (record { keys = keys-of 8; sheet = zeros 216; count = 1; class = 4; serial = 1; answers = refl })
+    (and (record { keys = keys-of 8; sheet = zeros 224; count = 1; class = 6; serial = 1; answers = refl })
     none))))
 
 pub sheet-refusals : SheetRefusals

@@ -12,7 +12,7 @@ use Rattle.octets.proofs.EveryByte.{append-bytes, part-bytes}
 use Rattle.octets.proofs.Numbers.{length-be, be-bytes, number-be, be-number, number-zeros, be-zero}
 use Rattle.octets.proofs.Parts.{length-part, part-all, part-append-head, part-append-right}
 use Rattle.octets.proofs.Zeros.{length-zeros, zeros-bytes, allZero-zeros, allZero-is, part-zeros}
-use Rattle.cipher.specs.Promise.{ByteBlock}
+use Rattle.octets.specs.Block.{ByteBlock}
 use Rattle.modes.specs.Laws.{ByteBlocks, CBC}
 use Rattle.modes.proofs.Laws.{modes-laws}
 use Rattle.modes.proofs.Authentication.{cmac-laws}

@@ -17,7 +17,7 @@ use Rattle.captions.specs.declared.Answer.the-variants.{Accepted, WrongK
 
 -- ---- the tests
 
--- a key isn't 8, 12 or 16 bytes, or the two lengths differ
+-- a key isn't 8, 10, 12 or 16 bytes, or the two lengths differ
 unfoldable pub wrongKeys : Keys → Bool
 wrongKeys k =
     not (sheetKeyLength (length (k .sealing)) && (sheetKeyLength (length (k .checking)) && eqb (length (k .sealing)) (length (k .checking))))

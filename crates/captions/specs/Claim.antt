@@ -5,7 +5,7 @@ use mathlib.Core.Bool.{true}
 use mathlib.Core.List.{List, [], _∷_}
 use lib.ListN.{length}
 use Rattle.octets.specs.Bytes.{Bytes, zeros, part}
-use Rattle.cipher.specs.Promise.{ByteBlock, Invertible}
+use Rattle.octets.specs.Block.{ByteBlock, Invertible}
 use Rattle.layout.specs.Layout.{Edition, slots, lastWrite, fitIn}
 use Rattle.captions.specs.Answers.{Outcome, outcome, firstOf}
 use Rattle.captions.specs.Captions.{Keys, Ciphers, padded}

@@ -6,22 +6,21 @@ use lib.ListN.{length, getD}
 use Rattle.octets.specs.Bytes.{zeros}
 use Rattle.octets.specs.Clauses.{Clause, _when_, Exactly, OneOf, Each}
 use Rattle.text.specs.Grammar.{UTF8}
-use Rattle.cipher.specs.Key.{keyBytes}
 use Rattle.layout.specs.Layout.{Edition, editionOf, slots, keyClass, editionByte, lastWrite, storedMark, markNumber, markLength, markCheck, mark, field, blankSheet}
-use Rattle.layout.specs.Rules.{IsBlank, MeetsLayout}
+use Rattle.layout.specs.Rules.{Classes, KeyFits, IsBlank, MeetsLayout}
 use Rattle.captions.specs.Answers.{Outcome}
 use Rattle.captions.specs.Captions.{Keys, Ciphers, loadedFor, keyMark, markFor, checkOf, opened}
 use Rattle.captions.specs.Calls.{writing, clearing, reading, blanking}
 
 -- ---- what the refusals speak of
 
--- two keys of 8, 12 or 16 bytes, both of as many (else 1)
+-- two keys of 8, 10, 12 or 16 bytes, both of as many (else 1)
 abbrev pub RightKeys : Keys → Type 0
-RightKeys k = OneOf (8 ∷ 12 ∷ 16 ∷ []) (length (k .sealing)) × (length (k .checking) ≡ length (k .sealing))
+RightKeys k = OneOf (8 ∷ 10 ∷ 12 ∷ 16 ∷ []) (length (k .sealing)) × (length (k .checking) ≡ length (k .sealing))
 
--- keys and a t that blanking takes (else 1)
-abbrev pub RightWords : Keys → ℕ → Type 0
-RightWords k t = RightKeys k × OneOf (4 ∷ 6 ∷ 8 ∷ []) t
+-- keys and a t that blanking takes: 4, 6, 8, 21 or 24 (else 1)
+abbrev pub RightClass : Keys → ℕ → Type 0
+RightClass k t = RightKeys k × Classes t
 
 -- n from 1 to 256 and a buffer of the size of a new sheet of n slots (else 3)
 abbrev pub BlankSpan : List ℕ → ℕ → Type 0
@@ -44,7 +43,7 @@ writeClauses k s i c =
     (1 when (RightKeys k → ⊥))
     ∷ (2 when (k .sealing ≡ k .checking))
     ∷ (4 when (MeetsLayout s → ⊥))
-    ∷ (5 when (length (k .sealing) ≡ keyBytes (keyClass s) → ⊥))
+    ∷ (5 when (KeyFits (length (k .sealing)) (keyClass s) → ⊥))
     ∷ (14 when OtherMark (loadedFor (keyClass s) k) s)
     ∷ (6 when (slots s ≤ i))
     ∷ (7 when (192 < length c))
@@ -64,7 +63,7 @@ readClauses k s i window =
     ∷ (2 when (k .sealing ≡ k .checking))
     ∷ (3 when (length window ≡ 192 → ⊥))
     ∷ (4 when (MeetsLayout s → ⊥))
-    ∷ (5 when (length (k .sealing) ≡ keyBytes (keyClass s) → ⊥))
+    ∷ (5 when (KeyFits (length (k .sealing)) (keyClass s) → ⊥))
     ∷ (14 when OtherMark (loadedFor (keyClass s) k) s)
     ∷ (6 when (slots s ≤ i))
     ∷ (9 when IsBlank (editionOf s) s i)
@@ -73,10 +72,10 @@ readClauses k s i window =
 
 unfoldable pub blankClauses : Keys → List ℕ → ℕ → ℕ → List Clause
 blankClauses k s n t =
-    (1 when (RightWords k t → ⊥))
+    (1 when (RightClass k t → ⊥))
     ∷ (2 when (k .sealing ≡ k .checking))
     ∷ (3 when (BlankSpan s n → ⊥))
-    ∷ (5 when (length (k .sealing) ≡ keyBytes t → ⊥))
+    ∷ (5 when (KeyFits (length (k .sealing)) t → ⊥))
     ∷ []
 
 -- ---- what a call leaves: length 0 and these bytes
@@ -110,9 +109,9 @@ pub record BlankOf (n : ℕ) : Type 0 where
   pub keys : Keys
   pub sheet : List ℕ
   pub count : ℕ
-  pub words : ℕ
+  pub class : ℕ
   pub serial : ℕ
-  pub answers : (blanking keys sheet count words serial) .number ≡ n
+  pub answers : (blanking keys sheet count class serial) .number ≡ n
 
 -- ---- the statement
 

@@ -12,6 +12,8 @@ use Rattle.text.specs.Place.{brokenAt}
 use Rattle.text.proofs.Laws.{text-laws}
 use Rattle.mcrypton.specs.Calls.{encrypting, decrypting}
 use Rattle.mcrypton.specs.Vectors.{key4}
+use Rattle.present.specs.Calls.{encrypting as presentEncrypting, decrypting as presentDecrypting}
+use Rattle.present.proofs.Refusals.{block-refusals as present-refusals}
 use Rattle.chip_bench.specs.Calls.{benching}
 use Rattle.modes.specs.Answers.{authenticating}
 use Rattle.panels.specs.Calls.{panelling}
@@ -34,6 +36,8 @@ use Rattle.captions_c.specs.declared.Day.{Day}
 use Rattle.captions_c.specs.declared.Date.{Date}
 use Rattle.captions_c.proofs.captions_encrypt_block.Reads as captions-encrypt-block
 use Rattle.captions_c.proofs.captions_decrypt_block.Reads as captions-decrypt-block
+use Rattle.captions_c.proofs.captions_present_encrypt_block.Reads as captions-present-encrypt-block
+use Rattle.captions_c.proofs.captions_present_decrypt_block.Reads as captions-present-decrypt-block
 use Rattle.captions_c.proofs.captions_bench_block.Reads as captions-bench-block
 use Rattle.captions_c.proofs.captions_cmac.Reads as captions-cmac
 use Rattle.captions_c.proofs.captions_panel.Reads as captions-panel
@@ -74,6 +78,12 @@ abbrev pub Decrypts : List ℕ → List ℕ → ℕ → List ℕ → Answer → 
 Decrypts key b path out r after =
     captions-decrypt-block.Learnt three (lent key, (lent b, (path, (lent out, tt)))) r (lent key, (lent b, (path, (lent after, tt))))
 
+abbrev pub EncryptsPresent : List ℕ → List ℕ → List ℕ → Answer → List ℕ → Type 0
+EncryptsPresent key b out r after = captions-present-encrypt-block.Learnt three (lent key, (lent b, (lent out, tt))) r (lent key, (lent b, (lent after, tt)))
+
+abbrev pub DecryptsPresent : List ℕ → List ℕ → List ℕ → Answer → List ℕ → Type 0
+DecryptsPresent key b out r after = captions-present-decrypt-block.Learnt three (lent key, (lent b, (lent out, tt))) r (lent key, (lent b, (lent after, tt)))
+
 abbrev pub Benches : List ℕ → ℕ → List ℕ → List ℕ → Answer → List ℕ → Type 0
 Benches key round array out r after =
     captions-bench-block.Learnt three (lent key, (round, (lent array, (lent out, tt)))) r (lent key, (round, (lent array, (lent after, tt))))
@@ -86,9 +96,9 @@ SealsPanel key first panel out r after =
     captions-panel.Learnt three (lent key, (first, (lent panel, (lent out, tt)))) r (lent key, (first, (lent panel, (lent after, tt))))
 
 abbrev pub Blanks : List ℕ → ℕ → ℕ → ℕ → List ℕ → List ℕ → Answer → List ℕ → Type 0
-Blanks sheet slots words serial sealing checking r after =
-    captions-blank.Learnt three (lent sheet, (slots, (words, (serial, (lent sealing, (lent checking, tt)))))) r
-    (lent after, (slots, (words, (serial, (lent sealing, (lent checking, tt))))))
+Blanks sheet slots class serial sealing checking r after =
+    captions-blank.Learnt three (lent sheet, (slots, (class, (serial, (lent sealing, (lent checking, tt)))))) r
+    (lent after, (slots, (class, (serial, (lent sealing, (lent checking, tt))))))
 
 abbrev pub Writes : List ℕ → List ℕ → List ℕ → ℕ → List ℕ → Pointed → List ℕ → Type 0
 Writes sealing checking sheet slot caption r after =
@@ -126,6 +136,8 @@ Lists sheet out r after = captions-list.Learnt two (lent sheet, (lent out, tt)) 
 pub record Equations : Type 0 where
   pub encrypt : (key b : List ℕ) (path : ℕ) (out : List ℕ) (r : Answer) (after : List ℕ) → Encrypts key b path out r after → crossed r after ≡ encrypting path key b out
   pub decrypt : (key b : List ℕ) (path : ℕ) (out : List ℕ) (r : Answer) (after : List ℕ) → Decrypts key b path out r after → crossed r after ≡ decrypting path key b out
+  pub present-encrypt : (key b out : List ℕ) (r : Answer) (after : List ℕ) → EncryptsPresent key b out r after → crossed r after ≡ presentEncrypting key b out
+  pub present-decrypt : (key b out : List ℕ) (r : Answer) (after : List ℕ) → DecryptsPresent key b out r after → crossed r after ≡ presentDecrypting key b out
   pub bench : (key : List ℕ) (round : ℕ) (array out : List ℕ) (r : Answer) (after : List ℕ) → Benches key round array out r after → crossed r after ≡ benching key round array out
   pub cmac : (key message out : List ℕ) (r : Answer) (after : List ℕ) → Checks key message out r after → crossed r after ≡ authenticating key message out
   pub panel : (key : List ℕ) (first : ℕ) (x out : List ℕ) (r : Answer) (after : List ℕ) → SealsPanel key first x out r after → crossed r after ≡ panelling key first x out
@@ -157,6 +169,13 @@ pub record Names : Type 0 where
   pub encrypts-not : (out : List ℕ) (r : Answer) (after : List ℕ) → Encrypts (zeros 7) block 0 out r after → (r ≡ answer 1 0) × (after ≡ out)
   pub decrypts : (r : Answer) (after : List ℕ) → Decrypts sealingKey block 0 (zeros 8) r after → (r ≡ answer 0 0) × (after ≡ decryptedBlock)
   pub decrypts-not : (out : List ℕ) (r : Answer) (after : List ℕ) → Decrypts (zeros 7) block 0 out r after → (r ≡ answer 1 0) × (after ≡ out)
+  -- zeros under ten zeros, and ones under sixteen zeros, of PRESENT's authors; a key of 12 bytes, and an output of 7
+  pub encrypts-present : (r : Answer) (after : List ℕ) → EncryptsPresent (zeros 10) (zeros 8) (zeros 8) r after
+      → (r ≡ answer 0 0) × (after ≡ 0x55 ∷ 0x79 ∷ 0xC1 ∷ 0x38 ∷ 0x7B ∷ 0x22 ∷ 0x84 ∷ 0x45 ∷ [])
+  pub encrypts-present-not : (r : Answer) (after : List ℕ) → EncryptsPresent (zeros 12) (zeros 8) (replicate 8 5) r after → (r ≡ answer 1 0) × (after ≡ replicate 8 5)
+  pub decrypts-present : (r : Answer) (after : List ℕ) → DecryptsPresent (zeros 16) (0x3C ∷ 0x60 ∷ 0x19 ∷ 0xE5 ∷ 0xE5 ∷ 0xED ∷ 0xD5 ∷ 0x63 ∷ []) (zeros 8) r after
+      → (r ≡ answer 0 0) × (after ≡ 0xFF ∷ 0xFF ∷ 0xFF ∷ 0xFF ∷ 0xFF ∷ 0xFF ∷ 0xFF ∷ 0xFF ∷ [])
+  pub decrypts-present-not : (r : Answer) (after : List ℕ) → DecryptsPresent (zeros 16) (zeros 8) (replicate 7 5) r after → (r ≡ answer 3 0) × (after ≡ replicate 7 5)
   -- an array after round 1, and round 13
   pub benches : (r : Answer) (after : List ℕ) → Benches checkingKey 1 wanted (zeros 8) r after → (r ≡ answer 0 0) × (after ≡ leading)
   pub benches-not : (r : Answer) (after : List ℕ) → Benches checkingKey 13 wanted (zeros 8) r after → (r ≡ answer 13 0) × (after ≡ zeros 8)
@@ -221,6 +240,8 @@ equations =
     record {
       encrypt = λ key b path out r after h. h;
       decrypt = λ key b path out r after h. h;
+      present-encrypt = λ key b out r after h. h;
+      present-decrypt = λ key b out r after h. h;
       bench = λ key round array out r after h. h;
       cmac = λ key message out r after h. h;
       panel = λ key first x out r after h. h;
@@ -242,6 +263,10 @@ names =
       encrypts-not = λ out r after h. crossed-is r after _ (h ∙ exhibits .not-encrypted out);
       decrypts = λ r after h. crossed-is r after _ (h ∙ exhibits .decrypted);
       decrypts-not = λ out r after h. crossed-is r after _ (h ∙ exhibits .not-decrypted out);
+      encrypts-present = λ r after h. crossed-is r after _ (h ∙ present-refusals .calls .encrypt-80);
+      encrypts-present-not = λ r after h. crossed-is r after _ (h ∙ present-refusals .calls .encrypt-key-12);
+      decrypts-present = λ r after h. crossed-is r after _ (h ∙ present-refusals .calls .decrypt-128);
+      decrypts-present-not = λ r after h. crossed-is r after _ (h ∙ present-refusals .calls .decrypt-output);
       benches = λ r after h. crossed-is r after _ (h ∙ exhibits .benched);
       benches-not = λ r after h. crossed-is r after _ (h ∙ exhibits .not-benched);
       checks = λ r after h. crossed-is r after _ (h ∙ exhibits .authenticated);

@@ -4,7 +4,9 @@ ghost use mathlib.Core.Path.{_≡_};
 ghost use mathlib.Core.List.{List};
 ghost use Prim.Native.Nat.{ℕ};
 ghost use Rattle.text.specs.Place.{brokenAt};
-ghost use Rattle.mcrypton.specs.Calls.{blockOutcome, encrypting, decrypting};
+ghost use Rattle.octets.specs.BlockCalls.{blockOutcome};
+ghost use Rattle.mcrypton.specs.Calls.{encrypting, decrypting};
+ghost use Rattle.present.specs.Calls.{encrypting as presentEncrypting, decrypting as presentDecrypting};
 ghost use Rattle.chip_bench.specs.Calls.{benchOutcome, benching};
 ghost use Rattle.modes.specs.Answers.{macOutcome, authenticating};
 ghost use Rattle.panels.specs.Calls.{panelOutcome, panelling};
@@ -45,13 +47,14 @@ fn numbered(number: u8) -> Answer
     Answer { number, length: 0 }
 }
 
-fn block_answer(a: mcrypton::BlockAnswer) -> Answer
+// Of a call on one block, whatever the cipher.
+fn block_answer(a: octets::BlockAnswer) -> Answer
     ensures { λ r. ⌜ ((x : List ℕ) → crossed r x ≡ blockOutcome a x) ⌝ }
 {
     match a {
-        mcrypton::BlockAnswer::Accepted => numbered(0),
-        mcrypton::BlockAnswer::WrongKey => numbered(1),
-        mcrypton::BlockAnswer::WrongSpan => numbered(3),
+        octets::BlockAnswer::Accepted => numbered(0),
+        octets::BlockAnswer::WrongKey => numbered(1),
+        octets::BlockAnswer::WrongSpan => numbered(3),
     }
 }
 
@@ -153,6 +156,22 @@ pub extern "C" fn captions_decrypt_block(
 }
 
 #[no_mangle]
+pub extern "C" fn captions_present_encrypt_block(key: &[u8], block: &[u8], out: &mut [u8]) -> Answer
+    ensures { λ r. ⌜ crossed r (now (out .exit)) ≡ presentEncrypting (now (key .entry)) (now (block .entry)) (now (out .entry)) ⌝ }
+{
+    let a = present::encrypt_block(key, block, out);
+    block_answer(a)
+}
+
+#[no_mangle]
+pub extern "C" fn captions_present_decrypt_block(key: &[u8], block: &[u8], out: &mut [u8]) -> Answer
+    ensures { λ r. ⌜ crossed r (now (out .exit)) ≡ presentDecrypting (now (key .entry)) (now (block .entry)) (now (out .entry)) ⌝ }
+{
+    let a = present::decrypt_block(key, block, out);
+    block_answer(a)
+}
+
+#[no_mangle]
 pub extern "C" fn captions_bench_block(
     key: &[u8],
     round: usize,
@@ -185,14 +204,14 @@ pub extern "C" fn captions_panel(key: &[u8], first: u64, panel: &[u8], out: &mut
 pub extern "C" fn captions_blank(
     sheet: &mut [u8],
     slots: usize,
-    words: usize,
+    class: usize,
     serial: u16,
     sealing: &[u8],
     checking: &[u8],
 ) -> Answer
-    ensures { λ r. ⌜ crossed r (now (sheet .exit)) ≡ plain (blanking (pair (now (sealing .entry)) (now (checking .entry))) (now (sheet .entry)) slots words serial) ⌝ }
+    ensures { λ r. ⌜ crossed r (now (sheet .exit)) ≡ plain (blanking (pair (now (sealing .entry)) (now (checking .entry))) (now (sheet .entry)) slots class serial) ⌝ }
 {
-    let a = sheet::blank(sheet, slots, words, serial, sealing, checking);
+    let a = sheet::blank(sheet, slots, class, serial, sealing, checking);
     sheet_answer(a)
 }
 

@@ -16,7 +16,7 @@ use Rattle.rounds.proofs.Inverse.{inverse-round, round-inverse}
 use Rattle.schedule.specs.Schedule.{Key, byCount, forwardWords, forward4, forward6, forward8, forward, backwardWords, backward4, backward6, backward8, backward, start, eightWords, times, register, constants, registerT, lastWord, roundKey, encryptionKey}
 use Rattle.mcrypton.specs.Bytes.{keyLength, wordsOf, bytesOf, encryptBytes}
 use Rattle.mcrypton.specs.Cipher.{afterBy, after, steps, encryptBlock}
-use Rattle.mcrypton.specs.Refusals.{Leaves}
+use Rattle.octets.specs.BlockCalls.{Leaves}
 use Rattle.mcrypton.proofs.Paths.{any-path}
 use Rattle.mcrypton.proofs.WordsOf.{words-bytes, bytes-words}
 use Rattle.mcrypton.proofs.ByteBlocks.{key-words, block-words, length-bytes, bytes-bytes}

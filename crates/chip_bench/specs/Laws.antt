@@ -14,7 +14,7 @@ use Rattle.schedule.specs.Schedule.{encryptionKey}
 use Rattle.mcrypton.specs.Bytes.{wordsOf, bytesOf, encryptBytes}
 use Rattle.mcrypton.specs.Cipher.{after}
 use Rattle.mcrypton.specs.Vectors.{key4, key6, key8, block}
-use Rattle.mcrypton.specs.Refusals.{Leaves}
+use Rattle.octets.specs.BlockCalls.{Leaves}
 use Rattle.chip_bench.specs.Calls.{benching}
 
 -- ---- the one block

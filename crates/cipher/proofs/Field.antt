@@ -6,6 +6,7 @@ use native.Mathlib.Omega.{arith}
 use lib.ListN.{getD, length}
 use lib.Seq.{drop-drop}
 use Rattle.octets.specs.Bytes.{part}
+use Rattle.octets.proofs.Each.{map-at}
 use Rattle.cipher.specs.Field.{blocks}
 
 pub length-blocks : (n : ℕ) (s : List ℕ) → length (blocks n s) ≡ n
@@ -19,10 +20,5 @@ blocks-at zero s i h = absurd (omega arith)
 blocks-at (suc n) s zero h = refl
 blocks-at (suc n) s (suc i) h = let q : 8 * suc i ≡ 8 + 8 * i = omega arith in rw (q, ← drop-drop (8 * i) 8 s) (blocks-at n _ i (omega arith))
 
-pub map-at : (f : List ℕ → List ℕ) (b : List (List ℕ)) (i : ℕ) → i < length b → getD (map f b) i [] ≡ f (getD b i [])
-map-at f [] i h = absurd (omega arith)
-map-at f (x ∷ b) zero h = refl
-map-at f (x ∷ b) (suc i) h = map-at f b i (omega arith)
-
 pub map-blocks-at : (f : List ℕ → List ℕ) (n : ℕ) (s : List ℕ) (i : ℕ) → i < n → getD (map f (blocks n s)) i [] ≡ f (part s (8 * i) 8)
-map-blocks-at f n s i h = map-at f (blocks n s) i (omega (arith, length-blocks n s)) ∙ ap f (blocks-at n s i h)
+map-blocks-at f n s i h = map-at [] [] f (blocks n s) i (omega (arith, length-blocks n s)) ∙ ap f (blocks-at n s i h)

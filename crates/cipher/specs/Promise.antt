@@ -5,20 +5,10 @@ use mathlib.Core.Bool.{true}
 use mathlib.Core.List.{List}
 use lib.ListN.{length}
 use Rattle.octets.specs.Bytes.{Bytes}
+use Rattle.octets.specs.Block.{Invertible}
 use Rattle.mcrypton.specs.Bytes.{encryptBytes, decryptBytes}
+use Rattle.present.specs.Bytes.{encryptBytes as presentEncrypt, decryptBytes as presentDecrypt}
 use Rattle.cipher.specs.Key.{classKnown, keyBytes, loaded, encrypted, decrypted, encryptBy, decryptBy}
-
--- a block of 8 bytes
-pub record ByteBlock (x : List ℕ) : Type 0 where
-  pub size : length x ≡ 8
-  pub bytes : Bytes x
-
--- E and D take blocks to blocks, and each undoes the other
-pub record Invertible (E D : List ℕ → List ℕ) : Type 0 where
-  pub encrypts : (x : List ℕ) → ByteBlock x → ByteBlock (E x)
-  pub decrypts : (x : List ℕ) → ByteBlock x → ByteBlock (D x)
-  pub decrypt-encrypt : (x : List ℕ) → ByteBlock x → D (E x) ≡ x
-  pub encrypt-decrypt : (x : List ℕ) → ByteBlock x → E (D x) ≡ x
 
 -- a key k of a known class: bytes, and as many as the class has
 pub record ClassKey (class : ℕ) (k : List ℕ) : Type 0 where
@@ -31,11 +21,18 @@ pub record MeansMcrypton (class : ℕ) : Type 0 where
   pub encrypts : (p : ℕ) (k b : List ℕ) → encryptBy class p k b ≡ encryptBytes p k b
   pub decrypts : (p : ℕ) (k b : List ℕ) → decryptBy class p k b ≡ decryptBytes p k b
 
+-- the class means PRESENT, whatever the key, the block and the path number
+pub record MeansPresent (class : ℕ) : Type 0 where
+  pub encrypts : (p : ℕ) (k b : List ℕ) → encryptBy class p k b ≡ presentEncrypt k b
+  pub decrypts : (p : ℕ) (k b : List ℕ) → decryptBy class p k b ≡ presentDecrypt k b
+
 -- the cipher of each class
 pub record ClassCiphers : Type 0 where
   pub class-4 : MeansMcrypton 4
   pub class-6 : MeansMcrypton 6
   pub class-8 : MeansMcrypton 8
+  pub class-21 : MeansPresent 21
+  pub class-24 : MeansPresent 24
 
 -- the promise of every loaded key
 pub record Promise (class : ℕ) (k : List ℕ) : Type 0 where

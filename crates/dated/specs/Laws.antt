@@ -7,9 +7,8 @@ use mathlib.Core.Logic.{_↔_, _⊎_}
 use lib.ListN.{length, replicate}
 use Rattle.octets.specs.Bytes.{zeros}
 use Rattle.octets.specs.Clauses.{Clause, _when_, Exactly, Each}
-use Rattle.cipher.specs.Key.{keyBytes}
 use Rattle.layout.specs.Layout.{editionOf, slots, keyClass}
-use Rattle.layout.specs.Rules.{IsBlank, MeetsLayout}
+use Rattle.layout.specs.Rules.{KeyFits, IsBlank, MeetsLayout}
 use Rattle.captions.specs.Captions.{Keys, loadedFor}
 use Rattle.captions.specs.Calls.{reading}
 use Rattle.captions.specs.Refusals.{RightKeys, OtherMark, IsAltered, Leaves}
@@ -27,7 +26,7 @@ datedClauses k s t i day window =
     ∷ (3 when (length window ≡ 192 → ⊥))
     ∷ (4 when (MeetsLayout s → ⊥))
     ∷ (4 when (MeetsTerms (slots s) t → ⊥))
-    ∷ (5 when (length (k .sealing) ≡ keyBytes (keyClass s) → ⊥))
+    ∷ (5 when (KeyFits (length (k .sealing)) (keyClass s) → ⊥))
     ∷ (11 when (36524 < day))
     ∷ (14 when OtherMark (loadedFor (keyClass s) k) s)
     ∷ (6 when (slots s ≤ i))

@@ -1,4 +1,4 @@
--- The cipher of a class by path numbers and by loaded keys: all one, mCrypton, and what the theorems for any cipher ask.
+-- The cipher of a class by path numbers and by loaded keys: all one, mCrypton or PRESENT, and what the theorems for any cipher ask.
 use Prim.Native.Nat.{ℕ}
 use mathlib.Core.Path.{_≡_, refl, sym, ap, _∙_}
 use mathlib.Core.Bool.{true, false, _&&_}
@@ -6,24 +6,29 @@ use mathlib.Core.List.{List}
 use lib.Dec.{eqb}
 use lib.ListN.{length}
 use borrow.Author.Tests.{eqb-true, not-false}
-use Rattle.octets.specs.Bytes.{Bytes}
+use Rattle.octets.specs.Bytes.{Bytes, be, number}
 use Rattle.octets.proofs.Bool.{and-right}
-use Rattle.schedule.specs.Schedule.{Count, four, six, eight}
 use Rattle.mcrypton.specs.Bytes.{encryptBytes, decryptBytes}
 use Rattle.mcrypton.proofs.Vectors.{block-vectors}
-use Rattle.cipher.specs.Key.{classKnown, keyBytes, sheetKeyLength, encryptBy, decryptBy}
-use Rattle.cipher.proofs.Promise.{class-cases, class-encrypts, class-decrypts, promise}
+use Rattle.present.specs.Bytes.{roundKeys, encryptBytes as presentEncrypt, decryptBytes as presentDecrypt}
+use Rattle.present.specs.Present.{encrypt, decrypt}
+use Rattle.present_schedule.specs.Schedule.{roundKey80, roundKey128}
+use Rattle.present.proofs.Vectors.{vectors}
+use Rattle.cipher.specs.Key.{presentClass, classKnown, keyBytes, sheetKeyLength, encryptBy, decryptBy}
+use Rattle.cipher.proofs.Promise.{class-encrypts, class-decrypts, class-ciphers, promise}
 use Rattle.layout.specs.Layout.{editionOf, keyClass, blankSheet}
+use Rattle.layout.proofs.Header.{rule-classes}
+use Rattle.layout.proofs.Fits.{fit-facts}
+use Rattle.layout.proofs.Meaning.{reflects-class}
 use Rattle.captions.specs.Captions.{Keys, Ciphers, loadedFor, keyMark}
 use Rattle.captions.specs.declared.Answer.the-variants.{Accepted}
 use Rattle.captions.specs.Calls.{wrongKeys, keyTests, otherClass, blankTests, writing, reading, blankingWith, blanking}
 use Rattle.captions.specs.Answers.{outcome}
 use Rattle.captions.specs.Claim.{Sound}
 use Rattle.captions.proofs.Tables.{Unmet, unmet-first, unmet-rest, decided-cong}
-use Rattle.captions.proofs.Editions.{fit-class}
 use Rattle.captions.proofs.ReadBack.{or-false-left, or-false-right}
 use Rattle.captions.proofs.Agree.{writing-agree, reading-agree}
-use Rattle.demands.specs.Ciphers.{byPaths, writingBy, readingBy, blankingBy, ByMcrypton, ClassesByMcrypton, CodeWrites, CodeReads, CodeBlanks}
+use Rattle.demands.specs.Ciphers.{byPaths, writingBy, readingBy, blankingBy, ByMcrypton, ByPresent, ClassesByCipher, CodeWrites, CodeReads, CodeBlanks}
 
 -- ---- keys of a class
 
@@ -86,18 +91,51 @@ module _ (k : Keys) (s : List ℕ) (u : Unmet (keyTests k)) (c : otherClass k s 
 
 -- ---- what both demands say
 
-by-mcrypton : (class : ℕ) → ByMcrypton class
+by-mcrypton : (class : ℕ) → presentClass class ≡ false → ByMcrypton class
 unfolding byPaths encryptBy decryptBy encryptBytes decryptBytes
-by-mcrypton class = record { seals = λ p q k b. refl; opens = λ p q k b. refl; checks = λ p q k b. refl }
+by-mcrypton class h = record { seals = λ p q k b. rw h; opens = λ p q k b. rw h; checks = λ p q k b. rw h }
 
-pub classes-by-mcrypton : ClassesByMcrypton
-classes-by-mcrypton =
+-- the round keys of PRESENT, by the length of the key
+round-80 : (k : List ℕ) (i : ℕ) → length k ≡ 10 → roundKeys k i ≡ roundKey80 (number k) i
+unfolding roundKeys
+round-80 k i e = rw e
+
+round-128 : (k : List ℕ) (i : ℕ) → length k ≡ 16 → roundKeys k i ≡ roundKey128 (number k) i
+unfolding roundKeys
+round-128 k i e = rw e
+
+by-present : (class n : ℕ) (roundKey : ℕ → ℕ → ℕ) → presentClass class ≡ true → ((k : List ℕ) (i : ℕ) → length k ≡ n → roundKeys k i ≡ roundKey (number k) i)
+    → ByPresent class n roundKey
+unfolding byPaths encryptBy decryptBy presentEncrypt presentDecrypt
+by-present class n roundKey h round =
     record {
-      class-4 = by-mcrypton 4;
-      class-6 = by-mcrypton 6;
-      class-8 = by-mcrypton 8;
-      no-other = λ s h. class-cases Count four six eight (keyClass s) (fit-class s h);
+      seals = λ p q k b e. rw h (encrypts (k .sealing) b e);
+      opens = λ p q k b e. rw h (decrypts (k .sealing) b e);
+      checks = λ p q k b e. rw h (encrypts (k .checking) b e);
+    }
+  where
+    keys : (k : List ℕ) → length k ≡ n → roundKeys k ≡ roundKey (number k)
+    keys k e = λ j i. round k i e j
+
+    encrypts : (k b : List ℕ) → length k ≡ n → be 8 (encrypt (roundKeys k) (number b)) ≡ be 8 (encrypt (roundKey (number k)) (number b))
+    encrypts k b e = ap (λ (f : ℕ → ℕ). be 8 (encrypt f (number b))) (keys k e)
+
+    decrypts : (k b : List ℕ) → length k ≡ n → be 8 (decrypt (roundKeys k) (number b)) ≡ be 8 (decrypt (roundKey (number k)) (number b))
+    decrypts k b e = ap (λ (f : ℕ → ℕ). be 8 (decrypt f (number b))) (keys k e)
+
+pub classes-by-cipher : ClassesByCipher
+unfolding presentClass
+classes-by-cipher =
+    record {
+      class-4 = by-mcrypton 4 refl;
+      class-6 = by-mcrypton 6 refl;
+      class-8 = by-mcrypton 8 refl;
+      class-21 = by-present 21 10 roundKey80 refl round-80;
+      class-24 = by-present 24 16 roundKey128 refl round-128;
+      no-other = λ s h. reflects-class s (keyClass s) .holds (rule-classes s (fit-facts s h .rule));
       vectors = block-vectors;
+      present-vectors = vectors;
+      means = class-ciphers;
       invertible = λ class p q k c. unfold byPaths in (promise c) .by-paths p q;
     }
 

@@ -1,13 +1,16 @@
 -- Demand 1 holds.
 use Prim.Native.Nat.{ℕ, _≤_, _<_}
-use mathlib.Core.Path.{_≡_, refl, ap}
+use mathlib.Core.Path.{_≡_, refl, sym, ap, _∙_}
 use mathlib.Core.List.{List, [], _∷_}
-use mathlib.Core.Logic.{inl, inr}
+use mathlib.Core.Logic.{_↔_, inl, inr}
 use native.Mathlib.Omega.{arith}
+use borrow.Author.Tests.{eqb-true, eq-eqb}
 use Rattle.octets.specs.Clauses.{Clause, _when_, Answers, Exactly}
+use Rattle.octets.proofs.Clauses.{reflects-yes}
 use Rattle.text.proofs.Laws.{text-laws}
-use Rattle.mcrypton.specs.Refusals.{blockClauses}
+use Rattle.octets.specs.BlockCalls.{blockClauses}
 use Rattle.mcrypton.proofs.Refusals.{block-refusals}
+use Rattle.present.proofs.Refusals.{block-refusals as present-refusals}
 use Rattle.modes.specs.Refusals.{macClauses}
 use Rattle.modes.proofs.Refusals.{mac-refusals}
 use Rattle.chip_bench.specs.Laws.{benchClauses}
@@ -17,6 +20,8 @@ use Rattle.panels.proofs.Laws.{panels}
 use Rattle.calendar.specs.Calendar.{DayOutcome, DateOutcome, dayOfDate, dateOfDay}
 use Rattle.calendar.proofs.Laws.{calendar-laws}
 use Rattle.cipher.specs.Key.{keyBytes}
+use Rattle.layout.specs.Rules.{KeyFits}
+use Rattle.layout.proofs.Meaning.{reflects-fits}
 use Rattle.layout.proofs.Places.{places}
 use Rattle.captions.specs.Refusals.{writeClauses, clearClauses, readClauses, blankClauses}
 use Rattle.captions.proofs.Refusals.{sheet-refusals}
@@ -63,14 +68,21 @@ no-date n h =
     let e = calendar-laws .day-refused n (late n (λ l. h (calendar-laws .day-accepted n .1 l))) in
     (ap (λ (o : DateOutcome). o .year) e, ap (λ (o : DateOutcome). o .month) e, ap (λ (o : DateOutcome). o .day) e)
 
+-- ---- key bytes
+
+size : (n t : ℕ) {m : ℕ} → keyBytes t ≡ m → KeyFits n t ↔ (n ≡ m)
+size n t e = (λ f. eqb-true n (keyBytes t) (reflects-yes (reflects-fits n t) f) ∙ e, λ h. reflects-fits n t .holds (eq-eqb n (keyBytes t) (h ∙ sym e)))
+
 -- ---- the whole
 
 pub demand1 : Demand1
 unfolding NoZero blockClauses macClauses benchClauses panelClauses writeClauses clearClauses readClauses blankClauses datedClauses keyBytes
 demand1 =
     record {
-      encrypt-block = λ p k b out. decides ((λ e. omega (arith, e)), ((λ e. omega (arith, e)), tt)) (block-refusals .encrypt .exactly p k b out) (block-refusals .encrypt .refused p k b out);
-      decrypt-block = λ p k b out. decides ((λ e. omega (arith, e)), ((λ e. omega (arith, e)), tt)) (block-refusals .decrypt .exactly p k b out) (block-refusals .decrypt .refused p k b out);
+      encrypt-block = λ p k b out. decides ((λ e. omega (arith, e)), ((λ e. omega (arith, e)), tt)) (block-refusals .encrypt p .exactly k b out) (block-refusals .encrypt p .refused k b out);
+      decrypt-block = λ p k b out. decides ((λ e. omega (arith, e)), ((λ e. omega (arith, e)), tt)) (block-refusals .decrypt p .exactly k b out) (block-refusals .decrypt p .refused k b out);
+      present-encrypt-block = λ k b out. decides ((λ e. omega (arith, e)), ((λ e. omega (arith, e)), tt)) (present-refusals .encrypt .exactly k b out) (present-refusals .encrypt .refused k b out);
+      present-decrypt-block = λ k b out. decides ((λ e. omega (arith, e)), ((λ e. omega (arith, e)), tt)) (present-refusals .decrypt .exactly k b out) (present-refusals .decrypt .refused k b out);
       cmac = λ k m out. decides ((λ e. omega (arith, e)), ((λ e. omega (arith, e)), tt)) (mac-refusals .exactly k m out) (mac-refusals .refused k m out);
       bench-block = λ k r wanted out. decides ((λ e. omega (arith, e)), ((λ e. omega (arith, e)), ((λ e. omega (arith, e)), tt))) (bench .exactly k r wanted out) (bench .refused k r wanted out);
       panel = λ k first x out. decides ((λ e. omega (arith, e)), ((λ e. omega (arith, e)), ((λ e. omega (arith, e)), tt))) (panels .exactly k first x out) (panels .refused k first x out);
@@ -82,8 +94,10 @@ demand1 =
       day-of-date = λ y m d. decides ((λ e. omega (arith, e)), tt) (calendar-laws .date-exactly y m d) (no-day y m d);
       date-of-day = λ n. decides ((λ e. omega (arith, e)), tt) (calendar-laws .day-exactly n) (no-date n);
       places = places;
+      key-sizes = λ n. (size n 4 refl, size n 6 refl, size n 8 refl, size n 21 refl, size n 24 refl);
       texts = text-laws;
       block-calls = block-refusals .calls;
+      present-block-calls = present-refusals .calls;
       mac-calls = mac-refusals .calls;
       bench-calls = bench .calls;
       panel-calls = panels .calls;

@@ -22,7 +22,7 @@ use Rattle.captions.proofs.WriteBack.{Wrote, accepted-write, WriteLeaves, write
 use Rattle.demands.specs.Ciphers.{byPaths, writingBy, readingBy, blankingBy}
 use Rattle.demands.specs.Steps.{Gives, Serves}
 use Rattle.demands.specs.Demand2.{Holds, Shows, Stores, Empties, Makes, Demand2}
-use Rattle.demands.proofs.Ciphers.{paths-sound, classes-by-mcrypton, code-writes, code-reads, code-blanks}
+use Rattle.demands.proofs.Ciphers.{paths-sound, classes-by-cipher, code-writes, code-reads, code-blanks}
 use Rattle.demands.proofs.Gives.{gives}
 use Rattle.demands.proofs.Served.{served-fits, served-sound}
 use Rattle.demands.proofs.Blanking.{blank-len, blank-is}
@@ -128,7 +128,7 @@ demand2 =
       held = held;
       clears = empties;
       blanks = makes;
-      ciphers = classes-by-mcrypton;
+      ciphers = classes-by-cipher;
       cbc = λ E D n c x promise. cbc-steps promise n c x;
       mac = mac-steps;
       places = places;

@@ -1,17 +1,14 @@
 -- Demand 3 holds.
-use Prim.Native.Nat.{ℕ, _-_, _<_}
-use mathlib.Core.Path.{_≡_, refl, ap, _∙_}
-use mathlib.Core.List.{List, _++_}
+use Prim.Native.Nat.{ℕ, _<_}
+use mathlib.Core.Path.{_≡_, refl}
+use mathlib.Core.List.{List}
 use lib.ListN.{length}
-use Rattle.octets.specs.Bytes.{zeros}
 use Rattle.mcrypton.proofs.FirstHalf.{first-half}
 use Rattle.layout.specs.Layout.{editionOf, slots, keyClass}
-use Rattle.captions.specs.Captions.{Keys, padded}
+use Rattle.captions.specs.Captions.{Keys}
 use Rattle.captions.specs.Calls.{clearing}
-use Rattle.captions.specs.Answers.{Outcome, answerNumber, answerLength}
-use Rattle.captions.specs.declared.Answer.the-variants.{Accepted, Blank}
 use Rattle.captions.specs.Runs.{finally}
-use Rattle.captions.specs.Model.{Call, writes, clears, Page, blank, holds, page, answered, modelStep}
+use Rattle.captions.specs.Model.{Call, writes, clears, page, answered, modelStep}
 use Rattle.captions.specs.Turns.{Turn, own, stranger, ownCalls, EachStranger, none as no-stranger, past, met, turnModel}
 use Rattle.captions.specs.Claim.{stepped, SameHeader, Captions, TurnedDown, FollowsModel, stepWith, shown}
 use Rattle.captions.proofs.Store.{keyClass-kept}
@@ -19,13 +16,13 @@ use Rattle.captions.proofs.Editions.{editions-regular, edition-kept}
 use Rattle.captions.proofs.Runs.{handed-on}
 use Rattle.captions.proofs.Simulation.{sheets-follow-model}
 use Rattle.demands.specs.Ciphers.{byPaths, writingBy, readingBy}
-use Rattle.demands.specs.Steps.{Gives, sheetStep, keyRefusal, turnStep, Stranger, Serves, BlankSheet}
+use Rattle.demands.specs.Steps.{sheetStep, keyRefusal, turnStep, Stranger, Serves, BlankSheet}
 use Rattle.demands.specs.Demand3.{modelAfter, SecondHalf, Code, Demand3}
-use Rattle.demands.proofs.Ciphers.{same-paths, classes-by-mcrypton, code-writes, code-reads, code-blanks}
-use Rattle.demands.proofs.Gives.{gives}
+use Rattle.demands.proofs.Ciphers.{same-paths, classes-by-cipher, code-writes, code-reads, code-blanks}
 use Rattle.demands.proofs.Served.{served-keys, served-class, served-fits, served-sound}
 use Rattle.demands.proofs.Strangers.{stranger-down}
 use Rattle.demands.proofs.Turns.{turn-write, turn-clear, turn-stranger}
+use Rattle.demands.proofs.AnyCipher.{shows-blank, shows-caption, follows-book}
 use Rattle.demands.proofs.Premises.{premises}
 use Rattle.demands.proofs.Witnesses.{witnesses}
 
@@ -42,16 +39,6 @@ each-down : (p : ℕ) (k : Keys) (s : List ℕ) {turns : List Turn} → EachStra
 each-down p k s no-stranger = no-stranger
 each-down p k s (past h) = past (each-down p k s h)
 each-down p k s (met {k = k′} str h) = met (stranger-down p k s k′ str) (each-down p k s h)
-
--- what a read shows of a page, in plain values
-module _ {o : Outcome} {x : Page} (e : o ≡ shown x) where
-  pub shows-blank : x ≡ blank → Gives o 9 0 (zeros 192)
-  unfolding shown answerNumber answerLength
-  shows-blank h = gives Blank (zeros 192) (e ∙ ap shown h)
-
-  pub shows-caption : (c : List ℕ) → x ≡ holds c → Gives o 0 (length c) (c ++ zeros (192 - length c))
-  unfolding shown padded answerNumber answerLength
-  shows-caption c h = gives (Accepted (length c)) (padded c) (e ∙ ap shown h)
 
 module _ (p p′ q : ℕ) (k : Keys) (s : List ℕ) (turns : List Turn) (serves : Serves k s) (blank : BlankSheet s) (captions : Captions (ownCalls turns)) (each : EachStranger (Stranger s) turns) where
   pub follows : FollowsModel (editionOf s) (byPaths (keyClass s) p p k) k (turnStep p k) (λ k′. keyRefusal k′ s) s turns
@@ -100,4 +87,4 @@ code =
     }
 
 pub demand3 : Demand3
-demand3 = record { second = second-half; first = first-half; premises = premises; witnesses = witnesses; code = code; ciphers = classes-by-mcrypton }
+demand3 = record { second = second-half; any-cipher = follows-book; first = first-half; premises = premises; witnesses = witnesses; code = code; ciphers = classes-by-cipher }

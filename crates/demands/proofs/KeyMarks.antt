@@ -28,7 +28,7 @@ use Rattle.captions.proofs.Refusals.{reflects-keys, reflects-class, reflects-ma
 use Rattle.demands.specs.Ciphers.{byPaths, writingBy, readingBy}
 use Rattle.demands.specs.Steps.{Gives, keyRefusal}
 use Rattle.demands.specs.KeyMarks.{OtherPair, pairClauses, KeyMarks}
-use Rattle.demands.proofs.Ciphers.{classes-by-mcrypton, code-writes, code-reads}
+use Rattle.demands.proofs.Ciphers.{classes-by-cipher, code-writes, code-reads}
 use Rattle.demands.proofs.Gives.{gives}
 use Rattle.demands.proofs.Strangers.{stranger-write, stranger-read}
 
@@ -146,5 +146,5 @@ key-marks =
       old-stranger = old-stranger;
       old-write = old-write;
       old-read = old-read;
-      ciphers = classes-by-mcrypton;
+      ciphers = classes-by-cipher;
     }

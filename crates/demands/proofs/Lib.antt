@@ -6,7 +6,9 @@ pub mod Blanking
 pub mod Demand2
 pub mod Premises
 pub mod Strangers
+pub mod PresentMet
 pub mod Witnesses
+pub mod AnyCipher
 pub mod Demand3
 pub mod NoStrangers
 pub mod Demand1

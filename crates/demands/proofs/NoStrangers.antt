@@ -1,33 +1,18 @@
 -- Demand 3 of a list without strangers: they are turns of the pair's alone.
 use Prim.Native.Nat.{ℕ}
-use mathlib.Core.Path.{_≡_, refl, sym, ap, _∙_}
-use mathlib.Core.List.{List, [], _∷_, map}
+use mathlib.Core.Path.{_≡_, sym, ap, _∙_}
+use mathlib.Core.List.{List, map}
 use Rattle.layout.specs.Layout.{editionOf, slots}
 use Rattle.captions.specs.Captions.{Keys}
-use Rattle.captions.specs.Runs.{Reply, finally, replies}
+use Rattle.captions.specs.Runs.{finally}
 use Rattle.captions.specs.Model.{Call, newModel}
-use Rattle.captions.specs.Turns.{Turn, own, ownCalls, EachStranger, none as no-stranger, past, turnModel}
+use Rattle.captions.specs.Turns.{own, turnModel}
 use Rattle.captions.specs.Claim.{SameHeader, Captions}
 use Rattle.demands.specs.Steps.{sheetStep, keyRefusal, turnStep, Serves, BlankSheet}
 use Rattle.demands.specs.Demand3.{SecondHalf}
 use Rattle.demands.specs.NoStrangers.{NoStrangers}
+use Rattle.demands.proofs.AnyCipher.{own-calls, no-each, own-replies}
 use Rattle.demands.proofs.Demand3.{follows, demand3}
-
-own-calls : (calls : List Call) → ownCalls (map own calls) ≡ calls
-unfolding ownCalls
-own-calls [] = refl
-own-calls (c ∷ calls) = ap (λ (cs : List Call). c ∷ cs) (own-calls calls)
-
-no-each : {P : Keys → Type 0} (calls : List Call) → EachStranger P (map own calls)
-no-each [] = no-stranger
-no-each (c ∷ calls) = past (no-each calls)
-
--- a machine that is fed the pair's calls as turns
-module _ {S : Type 0} (turn : Turn → S → Reply × S) where
-  own-replies : (calls : List Call) (s : S) → replies turn (map own calls) s ≡ replies (λ c. turn (own c)) calls s
-  unfolding replies
-  own-replies [] s = refl
-  own-replies (c ∷ calls) s = ap (λ (rs : List Reply). (turn (own c) s) .0 ∷ rs) (own-replies calls ((turn (own c) s) .1))
 
 module _ (p p′ q : ℕ) (k : Keys) (s : List ℕ) (calls : List Call) (serves : Serves k s) (blank : BlankSheet s) (captions : Captions calls) where
   as-turns : SecondHalf p p′ q k s (map own calls)

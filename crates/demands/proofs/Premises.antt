@@ -12,15 +12,17 @@ use Rattle.octets.specs.Bytes.{Bytes, none, more, zeros, same}
 use Rattle.octets.specs.Clauses.{OneOf}
 use Rattle.captions.specs.Model.{Page, blank, holds}
 use Rattle.octets.proofs.Bool.{not-both, and-left, and-both}
+use Rattle.octets.proofs.Clauses.{reflects-yes}
 use Rattle.octets.proofs.Compare.{same-self, same-is, same-eq, same-differ}
 use Rattle.octets.proofs.EveryByte.{part-bytes}
 use Rattle.octets.proofs.Zeros.{length-zeros, zeros-bytes}
-use Rattle.cipher.specs.Key.{mcryptonClass, classKnown, keyBytes, sheetKeyLength}
+use Rattle.cipher.specs.Key.{mcryptonClass, presentClass, classKnown, keyBytes, sheetKeyLength}
 use Rattle.cipher.proofs.Promise.{class-cases}
 use Rattle.layout.specs.Layout.{Edition, edition1, edition2, edition3, editionOf, slots, keyClass, serial, storedMark, slotCount, sheetSize, blankSlot, fitIn, fit, firstEight, serialHeader, blankSlots, blankSheet1, blankSheet2, blankSheet}
-use Rattle.layout.proofs.Header.{count-within, edition-cases, edition-one, edition-two, edition-three}
+use Rattle.layout.proofs.Header.{count-within, rule-classes, edition-cases, edition-one, edition-two, edition-three}
 use Rattle.layout.proofs.Fits.{Rules, fit-rules}
-use Rattle.captions.specs.Answers.{answerNumber, answerLength, outcome, firstOf}
+use Rattle.layout.proofs.Meaning.{reflects-words}
+use Rattle.captions.specs.Answers.{Outcome, answerNumber, answerLength, outcome, firstOf}
 use Rattle.captions.specs.Captions.{Keys, loadedFor, keyMark, markFor, otherKeys}
 use Rattle.captions.specs.Calls.{wrongKeys, keyTests, otherClass, classTests, pairTests, blankTests, blankingWith, blanking}
 use Rattle.captions.specs.Claim.{Sound}
@@ -46,13 +48,11 @@ use Rattle.demands.proofs.Blanking.{blank-unmet, blank-is}
 
 -- a sheet of an edition, and what is known of it
 known-of : {e : Edition} {n t : ℕ} {s : List ℕ} → Blanked e n t s → Made e n t s
-unfolding classKnown
 known-of (one n t count class) = made-1 n t count class
 known-of (two n t x count class small) = made-2 n t x count class
 known-of (three n t x m count class small b six) = made-3 n t x m six b count class
 
 of-edition : {e : Edition} {n t : ℕ} {s : List ℕ} → Blanked e n t s → editionOf s ≡ e
-unfolding classKnown
 of-edition (one n t count class) =
     let first = byte-one (blankSheet1 n t) ((fit-rules edition1 (blankSheet1 n t) ((made-1 n t count class) .fits)) .rule) in
     edition-one (blankSheet1 n t) (λ h. absurd (omega (arith, h, first))) (λ h. absurd (omega (arith, h, first)))
@@ -76,23 +76,20 @@ blanks s b = unused-blank (editionOf s) s (fit-rules (editionOf s) s (b .fits)) 
 only : (s : List ℕ) → BlankSheet s → Blanked (editionOf s) (slots s) (keyClass s) s
 unfolding fit
 only s b =
-    edition-cases (λ e. fitIn e s ≡ true → ((i : ℕ) → i < slots s → blankSlot e s i ≡ true) → Blanked e (slots s) (keyClass s) s) s
-    (λ f g h z.
+    edition-cases (λ e. fitIn e s ≡ true → ((i : ℕ) → i < slots s → blankSlot e s i ≡ true) → e .classes (keyClass s) ≡ true → Blanked e (slots s) (keyClass s) s) s
+    (λ f g h z c.
     let r = fit-rules edition1 s h in
-    subst (Blanked edition1 (slots s) (keyClass s)) (sym (blanked-1 s (b .bytes) r (b .unused) z)) (one (slots s) (keyClass s) (r .count) known))
-    (λ g h z.
+    subst (Blanked edition1 (slots s) (keyClass s)) (sym (blanked-1 s (b .bytes) r (b .unused) z)) (one (slots s) (keyClass s) (r .count) c))
+    (λ g h z c.
     let r = fit-rules edition2 s h in
     subst (Blanked edition2 (slots s) (keyClass s)) (sym (blanked-2 s (b .bytes) r (b .unused) z))
-    (two (slots s) (keyClass s) (serial s) (r .count) known (serial-below edition2 refl s (b .bytes) r (b .unused))))
-    (λ g h z.
+    (two (slots s) (keyClass s) (serial s) (r .count) c (serial-below edition2 refl s (b .bytes) r (b .unused))))
+    (λ g h z c.
     let r = fit-rules edition3 s h in
     subst (Blanked edition3 (slots s) (keyClass s)) (sym (blanked-3 s (b .bytes) r (b .unused) z))
-    (three (slots s) (keyClass s) (serial s) (storedMark s) (r .count) known (serial-below edition3 refl s (b .bytes) r (b .unused)) (mark-bytes-3 (b .bytes)) (length-mark-3 s (b .bytes) r (b .unused))))
-    (b .fits) (blanks s b)
+    (three (slots s) (keyClass s) (serial s) (storedMark s) (r .count) c (serial-below edition3 refl s (b .bytes) r (b .unused)) (mark-bytes-3 (b .bytes)) (length-mark-3 s (b .bytes) r (b .unused))))
+    (b .fits) (blanks s b) (rule-classes s (fit-rules (editionOf s) s (b .fits) .rule))
   where
-    known : classKnown (keyClass s) ≡ true
-    known = fit-class s (b .fits)
-
     mark-bytes-3 : Bytes s → Bytes (storedMark s)
     mark-bytes-3 h = unfold storedMark in part-bytes 10 6 h
 
@@ -101,7 +98,7 @@ only s b =
 -- a key as long as a class has key bytes
 class-length : (t n : ℕ) → classKnown t ≡ true → n ≡ keyBytes t → sheetKeyLength n ≡ true
 unfolding keyBytes sheetKeyLength
-class-length t n h e = rw e (class-cases (λ t. sheetKeyLength (keyBytes t) ≡ true) refl refl refl t h)
+class-length t n h e = rw e (class-cases (λ t. sheetKeyLength (keyBytes t) ≡ true) refl refl refl refl refl t h)
 
 -- no twin keys exactly if the two lists are not equal
 unlike-same : (a b : List ℕ) → same a b ≡ false → a ≡ b → ⊥
@@ -277,27 +274,24 @@ unlike t h =
       checking = ones-bytes (keyBytes t);
       sealing-size = length-zeros (keyBytes t);
       checking-size = length-replicate (keyBytes t) 1;
-      unlike = unlike-same (zeros (keyBytes t)) (replicate (keyBytes t) 1) (class-cases (λ t. same (zeros (keyBytes t)) (replicate (keyBytes t) 1) ≡ false) refl refl refl t h);
+      unlike = unlike-same (zeros (keyBytes t)) (replicate (keyBytes t) 1) (class-cases (λ t. same (zeros (keyBytes t)) (replicate (keyBytes t) 1) ≡ false) refl refl refl refl refl t h);
     }
-
-known-words : (t : ℕ) → OneOf (4 ∷ 6 ∷ 8 ∷ []) t → classKnown t ≡ true
-unfolding classKnown mcryptonClass OneOf
-known-words t (inl e) = rw e
-known-words t (inr (inl e)) = rw e
-known-words t (inr (inr e)) = rw e
 
 page-cases : (p : Page) → (p ≡ blank → ⊥) → ((c : List ℕ) → p ≡ holds c → ⊥) → ⊥
 page-cases blank b h = b refl
 page-cases (holds c) b h = h c refl
 
 pub premises : Premises
-unfolding classKnown mcryptonClass keyBytes
+unfolding classKnown mcryptonClass presentClass keyBytes
 premises =
     record {
       counts = count-within;
       class-4 = (refl, refl);
       class-6 = (refl, refl);
       class-8 = (refl, refl);
+      class-21 = (refl, refl);
+      class-24 = (refl, refl);
+      mcryptons = λ t. (reflects-words t .holds, reflects-yes (reflects-words t));
       made = made;
       only = only;
       of-edition = of-edition;
@@ -307,8 +301,8 @@ premises =
       unlike-serves = unlike-serves;
       marked-serves = marked-serves;
       serves-unlike = serves-unlike;
-      ask-1 = λ n t l h w. unfold blankSheet1 blankSlots firstEight in made (one n t (count-within n l h) (known-words t w));
-      ask-2 = λ n t x l h w y. unfold blankSheet2 blankSlots serialHeader firstEight in made (two n t x (count-within n l h) (known-words t w) y);
+      ask-1 = λ n t l h w. unfold blankSheet1 blankSlots firstEight in made (one n t (count-within n l h) (reflects-yes (reflects-words t) w));
+      ask-2 = λ n t x l h w y. unfold blankSheet2 blankSlots serialHeader firstEight in made (two n t x (count-within n l h) (reflects-yes (reflects-words t) w) y);
       page-is = page-cases;
       blanking-serves = blanking-serves;
       serves-blanking = serves-blanking;
@@ -321,3 +315,9 @@ premises =
       ask-stranger = λ s k i c turns n h. met n h;
       first = first-asks;
     }
+
+-- a sheet of two slots that blanking makes, with the pair that serves it
+pub by-blanking : (k : Keys) (t : ℕ) (s : List ℕ) → blanking k (zeros 432) 2 t 0x5a04 ≡ outcome (Accepted 0) s → Bytes (k .sealing) → Bytes (k .checking) → ByBlanking k s
+unfolding outcome answerNumber
+by-blanking k t s e a b =
+    subst (ByBlanking k) (ap (λ (o : Outcome). o .bytes) e) (premises .blanking-serves k (zeros 432) 2 t 0x5a04 a b (omega arith) (ap (λ (o : Outcome). o .number) e))

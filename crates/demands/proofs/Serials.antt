@@ -9,9 +9,9 @@ use mathlib.Core.Logic.{_≢_}
 use mathlib.Core.Bool.{true, false}
 use mathlib.Core.List.{List}
 use native.Mathlib.Omega.{arith}
-use Rattle.cipher.specs.Key.{classKnown}
+use Rattle.cipher.specs.Key.{mcryptonClass, classKnown}
 use Rattle.cipher.specs.Promise.{ClassKey}
-use Rattle.cipher.proofs.Promise.{promise}
+use Rattle.cipher.proofs.Promise.{mcrypton-known, promise}
 use Rattle.layout.specs.Layout.{Edition, keyClass, slotCount, fit, blankSheet1}
 use Rattle.captions.specs.Captions.{Keys, Ciphers, keyMark, startBlock, sealedField}
 use Rattle.captions.specs.Runs.{finally}
@@ -73,13 +73,15 @@ module _ (p : ℕ) (k : Keys) (t n : ℕ) (calls : List Call) (known : classKnow
   old-serves {s = s} old b = premises .unlike-serves k s (premises .made b .fits) (other-edition b old) (rw (premises .class b) u)
 
   tail-of : (x : ℕ) (s : List ℕ) → x < 65536 → WithSerial k t n x s → tailOf (finally (sheetStep p k) calls s) ≡ x
-  tail-of x s h second = tail-kept p k (two n t x few known h) (old-serves refl (two n t x few known h)) calls captions ∙ serial-2 n t x h
+  tail-of x s h (second c) = tail-kept p k (two n t x few c h) (old-serves refl (two n t x few c h)) calls captions ∙ serial-2 n t x h
   tail-of x s h third =
       tail-kept p k (blanked-pair k n t x known few h u) (blanked-serves k n t x known few h u) calls captions
       ∙ serial-3 n t x (keyMark (byPaths t 0 0 k) n t x) (mark-six (byPaths t 0 0 k) (sound t k known u 0) n t x) h
 
-  tail-1 : tailOf (finally (sheetStep p k) calls (blankSheet1 n t)) ≡ 0
-  tail-1 = tail-kept p k (one n t few known) (old-serves refl (one n t few known)) calls captions
+tail-1 : (p : ℕ) (k : Keys) (t n : ℕ) (calls : List Call) → mcryptonClass t ≡ true → UnlikeKeys t k → slotCount n ≡ true → Captions calls
+    → tailOf (finally (sheetStep p k) calls (blankSheet1 n t)) ≡ 0
+tail-1 p k t n calls class u few captions =
+    tail-kept p k (one n t few class) (old-serves p k t n calls (mcrypton-known t class) u few captions refl (one n t few class)) calls captions
 
 once : (p p′ : ℕ) (k : Keys) (s : List ℕ) (w w′ i i′ : ℕ)
     → fit s ≡ true → UnlikeKeys (keyClass s) k → w < 2 ^ 32 → w′ < 2 ^ 32 → i < 2 ^ 16 → i′ < 2 ^ 16
@@ -101,17 +103,17 @@ blanked k b n t x h =
 pub serials : Serials
 serials =
     record {
-      of-edition-2 = λ k t n x. second;
+      of-edition-2 = λ k t n x c. second c;
       blanked = blanked;
       kept = λ p k t n x s calls known u f c. tail-of p k t n calls known u f c x s;
       none-in-1 = tail-1;
       apart = λ p p′ k t n n′ x x′ s s′ calls calls′ w w′ i i′ known u f f′ c c′ h h′ d b b′.
           tails-apart t k known u p p′ _ _ x x′ w w′ i i′ (tail-of p k t n calls known u f c x s h b) (tail-of p′ k t n′ calls′ known u f′ c′ x′ s′ h′ b′) h h′ d;
       apart-from-1 = λ p p′ k t n n′ x s calls calls′ w w′ i i′ known u f f′ c c′ h d b.
-          tails-apart t k known u p p′ _ _ x 0 w w′ i i′ (tail-of p k t n calls known u f c x s h b) (tail-1 p′ k t n′ calls′ known u f′ c′) h (omega arith) d;
+          tails-apart t k (mcrypton-known t known) u p p′ _ _ x 0 w w′ i i′ (tail-of p k t n calls (mcrypton-known t known) u f c x s h b) (tail-1 p′ k t n′ calls′ known u f′ c′) h (omega arith) d;
       once = once;
       serial-0 = λ p p′ k t n n′ s calls calls′ w i x known u f f′ c c′ b.
-          ap₂ (λ (d : Ciphers) (a : ℕ). sealedField d a w i x) (paths-same t k known u p p′)
-          (tail-of p k t n calls known u f c 0 s (omega arith) b ∙ sym (tail-1 p′ k t n′ calls′ known u f′ c′));
+          ap₂ (λ (d : Ciphers) (a : ℕ). sealedField d a w i x) (paths-same t k (mcrypton-known t known) u p p′)
+          (tail-of p k t n calls (mcrypton-known t known) u f c 0 s (omega arith) b ∙ sym (tail-1 p′ k t n′ calls′ known u f′ c′));
       premises = premises;
     }

@@ -31,7 +31,8 @@ use Rattle.demands.specs.ShownText.{ShowsText, ShownText}
 use Rattle.demands.proofs.Ciphers.{same-paths, code-reads}
 use Rattle.demands.proofs.Served.{served-keys, served-class, served-fits, served-sound}
 use Rattle.demands.proofs.Demand1.{demand1}
-use Rattle.demands.proofs.Demand3.{shows-caption, follows, second-half}
+use Rattle.demands.proofs.AnyCipher.{shows-caption}
+use Rattle.demands.proofs.Demand3.{follows, second-half}
 
 -- the caption that a window shows, and zeros behind it
 take-caption : (c z : List ℕ) → take (length c) (c ++ z) ≡ c

@@ -17,7 +17,7 @@ use Rattle.mcrypton.specs.Cipher.{byWords, afterBy, steps, encryptBlock}
 use Rattle.mcrypton.specs.Bytes.{wordsOf, bytesOf, encryptBytes}
 use Rattle.modes.specs.Xor.{xorBytes}
 use Rattle.modes.specs.CMAC.{shiftLeft, double, blockCount, lastBlock, messageBlock, chain, cmac}
-use Rattle.cipher.specs.Key.{mcryptonClass, classKnown, keyBytes, sheetKeyLength, encryptBy}
+use Rattle.cipher.specs.Key.{mcryptonClass, presentClass, classKnown, keyBytes, sheetKeyLength, encryptBy}
 use Rattle.layout.specs.Layout.{editionOf, slots, keyClass, editionByte, serial, storedMark, slotCount, sheetSize, firstEight, serialHeader, blankHeader, blankSlots, blankSheet}
 use Rattle.captions.specs.Answers.{Outcome, answerNumber, answerLength, outcome}
 use Rattle.captions.specs.Captions.{Keys, pair, markBlock, keyMark, markFor, otherKeys}
@@ -33,22 +33,22 @@ use Rattle.exhibits.proofs.Exhibits.{exhibits}
 use Rattle.demands.specs.Ciphers.{byPaths, blankingBy}
 use Rattle.demands.specs.Steps.{Gives, keyRefusal, turnStep, Stranger}
 use Rattle.demands.specs.Witnesses.{says, firstPair, sevenTurns, strangersSheet, ModelRun, WornRun, StrangersMet, Witnesses}
-use Rattle.demands.specs.Premises.{ByBlanking}
 use Rattle.demands.proofs.Ciphers.{code-blanks}
 use Rattle.demands.proofs.Gives.{gives}
 use Rattle.demands.proofs.Turns.{turn-write}
-use Rattle.demands.proofs.Premises.{premises, ones-bytes}
+use Rattle.demands.proofs.Premises.{ones-bytes, by-blanking}
+use Rattle.demands.proofs.PresentMet.{present-met-80, present-met-128}
 
 -- the pair exchanged
 exchanged : Keys
 exchanged = pair (replicate 8 1) (zeros 8)
 
 own-mark : keyMark (byPaths 4 0 0 firstPair) 2 4 0x5a04 ≡ 0x91 ∷ 0xa0 ∷ 0x8f ∷ 0x35 ∷ 0x74 ∷ 0x63 ∷ []
-unfolding rotate1 rotate sboxes sbox γ π τ byCount forwardWords forward4 forward6 forward8 forward start eightWords times register constants registerT lastWord roundKey encryptionKey byWords afterBy steps encryptBlock wordsOf bytesOf encryptBytes encryptBy byPaths xorBytes shiftLeft double blockCount lastBlock messageBlock chain cmac zeros be markBlock keyMark
+unfolding rotate1 rotate sboxes sbox γ π τ byCount forwardWords forward4 forward6 forward8 forward start eightWords times register constants registerT lastWord roundKey encryptionKey byWords afterBy steps encryptBlock wordsOf bytesOf encryptBytes presentClass encryptBy byPaths xorBytes shiftLeft double blockCount lastBlock messageBlock chain cmac zeros be markBlock keyMark
 own-mark = refl
 
 other-mark : keyMark (byPaths 4 0 0 exchanged) 2 4 0x5a04 ≡ 0x3b ∷ 0x5a ∷ 0x0e ∷ 0x51 ∷ 0xac ∷ 0x7c ∷ []
-unfolding exchanged rotate1 rotate sboxes sbox γ π τ byCount forwardWords forward4 forward6 forward8 forward start eightWords times register constants registerT lastWord roundKey encryptionKey byWords afterBy steps encryptBlock wordsOf bytesOf encryptBytes encryptBy byPaths xorBytes shiftLeft double blockCount lastBlock messageBlock chain cmac zeros be markBlock keyMark
+unfolding exchanged rotate1 rotate sboxes sbox γ π τ byCount forwardWords forward4 forward6 forward8 forward start eightWords times register constants registerT lastWord roundKey encryptionKey byWords afterBy steps encryptBlock wordsOf bytesOf encryptBytes presentClass encryptBy byPaths xorBytes shiftLeft double blockCount lastBlock messageBlock chain cmac zeros be markBlock keyMark
 other-mark = refl
 
 blanked : blanking firstPair (zeros 432) 2 4 0x5a04 ≡ outcome (Accepted 0) strangersSheet
@@ -102,20 +102,12 @@ own-count : (finally modelStep (ownCalls sevenTurns) (newModel (slots strangersS
 unfolding forms inside after some meets wellFormed finally ownCalls modelStep newModel
 own-count = rw two-slots
 
-blanked-number : (blanking firstPair (zeros 432) 2 4 0x5a04) .number ≡ 0
-unfolding outcome answerNumber
-blanked-number = ap (λ (o : Outcome). o .number) blanked
-
-blanked-bytes : (blanking firstPair (zeros 432) 2 4 0x5a04) .bytes ≡ strangersSheet
-unfolding outcome
-blanked-bytes = ap (λ (o : Outcome). o .bytes) blanked
-
 strangers-met : StrangersMet strangersSheet
 unfolding ownCalls exchanged answerNumber answerLength
 strangers-met =
     record {
       blanked = gives (Accepted 0) strangersSheet blanked;
-      sheet = subst (ByBlanking firstPair) blanked-bytes (premises .blanking-serves firstPair (zeros 432) 2 4 0x5a04 (zeros-bytes 8) (ones-bytes 8) (omega arith) blanked-number);
+      sheet = by-blanking firstPair 4 strangersSheet blanked (zeros-bytes 8) (ones-bytes 8);
       captions = Claim.write (more (lit< tt) none) (Claim.clear (Claim.write (more (lit< tt) none) Claim.none));
       each = each;
       answers = answers;
@@ -161,4 +153,4 @@ unfolding step write
 worn-run = record { answers = two-answers; after = left-after }
 
 pub witnesses : Witnesses
-witnesses = record { model = model-run; worn = worn-run; strangers = strangers-met }
+witnesses = record { model = model-run; worn = worn-run; strangers = strangers-met; present-80 = present-met-80; present-128 = present-met-128 }

@@ -1,20 +1,27 @@
--- The cipher of demands 2 and 3: mCrypton by path numbers, for every key class, and the calls of write, read and blanking with it.
+-- The ciphers of demands 2 and 3: for every key class mCrypton by path numbers, or PRESENT, and the calls of write, read and blanking with it.
 use Prim.Native.Nat.{ℕ}
 use mathlib.Core.Path.{_≡_}
 use mathlib.Core.Bool.{true}
-use mathlib.Core.List.{List}
-use Rattle.schedule.specs.Schedule.{Count}
+use mathlib.Core.List.{List, [], _∷_}
+use mathlib.Core.Logic.{_⊎_}
+use lib.ListN.{length}
+use Rattle.octets.specs.Bytes.{be, number}
 use Rattle.mcrypton.specs.Cipher.{encryptBlock, decryptBlock}
 use Rattle.mcrypton.specs.Bytes.{wordsOf, bytesOf}
 use Rattle.mcrypton.specs.Vectors.{BlockVectors}
+use Rattle.present.specs.Present.{encrypt, decrypt}
+use Rattle.present_schedule.specs.Schedule.{roundKey80, roundKey128}
+use Rattle.present.specs.Vectors.{Vectors}
 use Rattle.cipher.specs.Key.{encryptBy, decryptBy}
-use Rattle.cipher.specs.Promise.{ClassKey, Invertible}
-use Rattle.layout.specs.Layout.{editionOf, keyClass, fit}
+use Rattle.octets.specs.Block.{Invertible}
+use Rattle.octets.specs.Clauses.{OneOf}
+use Rattle.cipher.specs.Promise.{ClassKey, ClassCiphers}
+use Rattle.layout.specs.Layout.{editionOf, keyClass, editionByte, fit}
 use Rattle.captions.specs.Answers.{Outcome}
 use Rattle.captions.specs.Captions.{Keys, Ciphers}
 use Rattle.captions.specs.Calls.{writingWith, readingWith, blankingWith, writing, reading, blanking}
 
--- the cipher of a key class: p is the path number of encryption, q that of decryption
+-- the cipher of a key class: p is the path number of encryption, q that of decryption, where the cipher has one
 unfoldable pub byPaths : ℕ → ℕ → ℕ → Keys → Ciphers
 byPaths class p q k =
     record {
@@ -42,14 +49,25 @@ pub record ByMcrypton (class : ℕ) : Type 0 where
   pub opens : (p q : ℕ) (k : Keys) (b : List ℕ) → (byPaths class p q k) .D b ≡ bytesOf (decryptBlock q (wordsOf (k .sealing)) (wordsOf b))
   pub checks : (p q : ℕ) (k : Keys) (b : List ℕ) → (byPaths class p q k) .M b ≡ bytesOf (encryptBlock p (wordsOf (k .checking)) (wordsOf b))
 
--- every key class does, and a sheet that meets the layout is of one of them
-pub record ClassesByMcrypton : Type 0 where
+-- a key class means PRESENT with keys of n bytes, and roundKey K i is K_i of the key K, whatever the path numbers
+pub record ByPresent (class n : ℕ) (roundKey : ℕ → ℕ → ℕ) : Type 0 where
+  pub seals : (p q : ℕ) (k : Keys) (b : List ℕ) → length (k .sealing) ≡ n → (byPaths class p q k) .E b ≡ be 8 (encrypt (roundKey (number (k .sealing))) (number b))
+  pub opens : (p q : ℕ) (k : Keys) (b : List ℕ) → length (k .sealing) ≡ n → (byPaths class p q k) .D b ≡ be 8 (decrypt (roundKey (number (k .sealing))) (number b))
+  pub checks : (p q : ℕ) (k : Keys) (b : List ℕ) → length (k .checking) ≡ n → (byPaths class p q k) .M b ≡ be 8 (encrypt (roundKey (number (k .checking))) (number b))
+
+-- the cipher of every key class, and a sheet that meets the layout is of one of them: those of PRESENT in edition 3 alone
+pub record ClassesByCipher : Type 0 where
   pub class-4 : ByMcrypton 4
   pub class-6 : ByMcrypton 6
   pub class-8 : ByMcrypton 8
-  pub no-other : (s : List ℕ) → fit s ≡ true → Count (keyClass s)
-  -- and what comes out of it, on a block for each key size
+  pub class-21 : ByPresent 21 10 roundKey80
+  pub class-24 : ByPresent 24 16 roundKey128
+  pub no-other : (s : List ℕ) → fit s ≡ true → OneOf (4 ∷ 6 ∷ 8 ∷ []) (keyClass s) ⊎ ((editionByte s ≡ 3) × OneOf (21 ∷ 24 ∷ []) (keyClass s))
+  -- and what comes out of each, on blocks for each key size: those of mCrypton computed by the second program, and those that PRESENT's authors print
   pub vectors : BlockVectors
+  pub present-vectors : Vectors
+  -- by the names that these speak of
+  pub means : ClassCiphers
   -- under keys of bytes, as many as the class has, opening undoes sealing and sealing undoes opening, by any path numbers
   pub invertible : (class p q : ℕ) (k : Keys) → ClassKey class (k .sealing) → Invertible ((byPaths class p q k) .E) ((byPaths class p q k) .D)
 

@@ -10,7 +10,10 @@ use Rattle.octets.specs.Clauses.{Clause, _when_, Answers, OneOf}
 use Rattle.text.specs.Grammar.{UTF8}
 use Rattle.text.specs.Laws.{TextLaws}
 use Rattle.mcrypton.specs.Calls.{encrypting, decrypting}
-use Rattle.mcrypton.specs.Refusals as Blocks
+use Rattle.octets.specs.BlockCalls as Blocks
+use Rattle.mcrypton.specs.Refusals.{BlockCalls}
+use Rattle.present.specs.Calls as Present
+use Rattle.present.specs.Refusals.{BlockCalls as PresentCalls}
 use Rattle.modes.specs.Answers.{authenticating}
 use Rattle.modes.specs.Refusals.{MacCalls}
 use Rattle.chip_bench.specs.Calls.{benching}
@@ -20,7 +23,7 @@ use Rattle.panels.specs.Laws.{PanelCalls}
 use Rattle.calendar.specs.Calendar.{dayOfDate, dateOfDay}
 use Rattle.calendar.specs.Laws.{IsDate}
 use Rattle.layout.specs.Layout.{editionOf, slots, keyClass, lastWrite}
-use Rattle.layout.specs.Rules.{IsBlank, MeetsLayout}
+use Rattle.layout.specs.Rules.{KeyFits, IsBlank, MeetsLayout}
 use Rattle.layout.specs.Places.{Places}
 use Rattle.captions.specs.Captions.{Keys, loadedFor}
 use Rattle.captions.specs.Calls.{writing, clearing, reading, blanking}
@@ -50,9 +53,9 @@ pub record Decides (number : ℕ) (clauses : List Clause) (Left : Type 0) : Type
 abbrev pub wrongKey : List ℕ → Clause
 wrongKey k = 1 when (OneOf (8 ∷ 12 ∷ 16 ∷ []) (length k) → ⊥)
 
--- the same of the keys of a sheet, or the two lengths differ
+-- 1: a key of a sheet isn't 8, 10, 12 or 16 bytes, or the two lengths differ
 abbrev pub wrongKeys : Keys → Clause
-wrongKeys k = 1 when (OneOf (8 ∷ 12 ∷ 16 ∷ []) (length (k .sealing)) × (length (k .checking) ≡ length (k .sealing)) → ⊥)
+wrongKeys k = 1 when (OneOf (8 ∷ 10 ∷ 12 ∷ 16 ∷ []) (length (k .sealing)) × (length (k .checking) ≡ length (k .sealing)) → ⊥)
 
 -- 2: sealing and checking key are equal
 abbrev pub twinKeys : Keys → Clause
@@ -66,9 +69,9 @@ wrongWindow window = 3 when (length window ≡ 192 → ⊥)
 abbrev pub unfitSheet : List ℕ → Clause
 unfitSheet s = 4 when (MeetsLayout s → ⊥)
 
--- 5: key bytes aren't 2 × t
+-- 5: key bytes don't fit byte 2
 abbrev pub otherClass : Keys → List ℕ → Clause
-otherClass k s = 5 when (length (k .sealing) ≡ 2 * keyClass s → ⊥)
+otherClass k s = 5 when (KeyFits (length (k .sealing)) (keyClass s) → ⊥)
 
 -- 14: the sheet is of edition 3, and its key mark isn't that of the keys
 abbrev pub otherKeys : Keys → List ℕ → Clause
@@ -94,6 +97,13 @@ pub record Demand1 : Type 0 where
       → Decides ((encrypting p k b out) .number) (wrongKey k ∷ (3 when ((length b ≡ 8) × (length out ≡ 8) → ⊥)) ∷ []) (Blocks.Leaves (encrypting p k b out) out)
   pub decrypt-block : (p : ℕ) (k b out : List ℕ)
       → Decides ((decrypting p k b out) .number) (wrongKey k ∷ (3 when ((length b ≡ 8) × (length out ≡ 8) → ⊥)) ∷ []) (Blocks.Leaves (decrypting p k b out) out)
+  -- the same with PRESENT, where a key is 10 or 16 bytes: 1 3
+  pub present-encrypt-block : (k b out : List ℕ)
+      → Decides ((Present.encrypting k b out) .number) ((1 when (OneOf (10 ∷ 16 ∷ []) (length k) → ⊥)) ∷ (3 when ((length b ≡ 8) × (length out ≡ 8) → ⊥)) ∷ [])
+      (Blocks.Leaves (Present.encrypting k b out) out)
+  pub present-decrypt-block : (k b out : List ℕ)
+      → Decides ((Present.decrypting k b out) .number) ((1 when (OneOf (10 ∷ 16 ∷ []) (length k) → ⊥)) ∷ (3 when ((length b ≡ 8) × (length out ≡ 8) → ⊥)) ∷ [])
+      (Blocks.Leaves (Present.decrypting k b out) out)
   -- CMAC: 1 3
   pub cmac : (k m out : List ℕ)
       → Decides ((authenticating k m out) .number) (wrongKey k ∷ (3 when (length out ≡ 8 → ⊥)) ∷ []) (Blocks.Leaves (authenticating k m out) out)
@@ -108,10 +118,10 @@ pub record Demand1 : Type 0 where
   -- blanking with n slots, t and the serial v: 1 (keys or t) 2 3 5
   pub blank-sheet : (k : Keys) (s : List ℕ) (n t v : ℕ)
       → Decides ((blanking k s n t v) .number)
-      ((1 when ((OneOf (8 ∷ 12 ∷ 16 ∷ []) (length (k .sealing)) × (length (k .checking) ≡ length (k .sealing))) × OneOf (4 ∷ 6 ∷ 8 ∷ []) t → ⊥))
+      ((1 when ((OneOf (8 ∷ 10 ∷ 12 ∷ 16 ∷ []) (length (k .sealing)) × (length (k .checking) ≡ length (k .sealing))) × OneOf (4 ∷ 6 ∷ 8 ∷ 21 ∷ 24 ∷ []) t → ⊥))
       ∷ twinKeys k
       ∷ (3 when ((1 ≤ n) × (n ≤ 256) × (length s ≡ 16 + 208 * n) → ⊥))
-      ∷ (5 when (length (k .sealing) ≡ 2 * t → ⊥))
+      ∷ (5 when (KeyFits (length (k .sealing)) t → ⊥))
       ∷ [])
       (Leaves (blanking k s n t v) s)
   -- writing the caption c to slot i: 1 2 4 5 14 6 7 15 8
@@ -138,10 +148,13 @@ pub record Demand1 : Type 0 where
       → Decides ((dateOfDay n) .number) ((11 when (36524 < n)) ∷ []) (((dateOfDay n) .year ≡ 0) × ((dateOfDay n) .month ≡ 0) × ((dateOfDay n) .day ≡ 0))
   -- where the numbers that the clauses look at stand in a sheet
   pub places : Places
+  -- key bytes that fit byte 2: 8, 12 and 16 fit 4, 6 and 8; 10 and 16 fit 21 and 24
+  pub key-sizes : (n : ℕ) → (KeyFits n 4 ↔ (n ≡ 8)) × (KeyFits n 6 ↔ (n ≡ 12)) × (KeyFits n 8 ↔ (n ≡ 16)) × (KeyFits n 21 ↔ (n ≡ 10)) × (KeyFits n 24 ↔ (n ≡ 16))
   -- what well-formed text is: the encoding of code points, and of no others
   pub texts : TextLaws
   -- calls of each kind, accepted and refused, in plain values
-  pub block-calls : Blocks.BlockCalls
+  pub block-calls : BlockCalls
+  pub present-block-calls : PresentCalls
   pub mac-calls : MacCalls
   pub bench-calls : BenchCalls
   pub panel-calls : PanelCalls

@@ -6,7 +6,7 @@ use mathlib.Core.Logic.{_⊎_}
 use mathlib.Core.List.{List, _++_}
 use lib.ListN.{length, getD, take}
 use Rattle.octets.specs.Bytes.{Bytes, be, zeros, part}
-use Rattle.cipher.specs.Promise.{ByteBlock, Invertible}
+use Rattle.octets.specs.Block.{ByteBlock, Invertible}
 use Rattle.modes.specs.CBC.{cbcEncrypt}
 use Rattle.modes.specs.CMAC.{cmac}
 use Rattle.modes.specs.Laws.{ByteBlocks}
@@ -17,7 +17,7 @@ use Rattle.layout.specs.Places.{Places}
 use Rattle.captions.specs.Answers.{Outcome}
 use Rattle.captions.specs.Captions.{Keys, Ciphers}
 use Rattle.captions.specs.Calls.{clearing}
-use Rattle.demands.specs.Ciphers.{byPaths, writingBy, readingBy, blankingBy, ClassesByMcrypton, CodeWrites, CodeReads, CodeBlanks}
+use Rattle.demands.specs.Ciphers.{byPaths, writingBy, readingBy, blankingBy, ClassesByCipher, CodeWrites, CodeReads, CodeBlanks}
 use Rattle.demands.specs.Steps.{Gives, Serves}
 
 -- slot i of s holds write number w and the caption c, sealed and checked with the ciphers x:
@@ -85,7 +85,7 @@ pub record Demand2 : Type 0 where
   -- of any buffer
   pub blanks : (p : ℕ) (k : Keys) (b : List ℕ) (n t v : ℕ) → (blankingBy p k b n t v) .number ≡ 0 → Makes (byPaths t p p k) n t v (blankingBy p k b n t v)
   -- which cipher that is
-  pub ciphers : ClassesByMcrypton
+  pub ciphers : ClassesByCipher
   -- CBC block by block, and CMAC step by step, as the standards print them
   pub cbc : (E D : List ℕ → List ℕ) (n : ℕ) (c x : List ℕ) → Invertible E D → ByteBlock c → ByteBlocks n x → CbcSteps E D n c x
   pub mac : (E : List ℕ → List ℕ) (m : List ℕ) → MacSteps E m

@@ -1,20 +1,24 @@
--- Demand 3: what holds of every list of writes, clears and strangers' writes from a blank sheet, and of every key.
+-- Demand 3: what holds of every list of writes, clears and strangers' writes from a blank sheet, and of every key of mCrypton.
 use Prim.Native.Nat.{ℕ, _-_, _<_}
 use mathlib.Core.Path.{_≡_}
 use mathlib.Core.List.{List, _++_}
 use lib.ListN.{length}
 use Rattle.octets.specs.Bytes.{zeros}
+use Rattle.octets.specs.Block.{ByteBlock, Invertible}
 use Rattle.schedule.specs.Schedule.{Key}
 use Rattle.mcrypton.specs.Claims.{FirstHalf}
-use Rattle.layout.specs.Layout.{slots, lastWrite}
-use Rattle.captions.specs.Captions.{Keys}
-use Rattle.captions.specs.Calls.{writing, clearing}
+use Rattle.layout.specs.Layout.{editionOf, slots, lastWrite}
+use Rattle.captions.specs.Answers.{firstOf}
+use Rattle.captions.specs.declared.Verdict.the-variants.{Pass}
+use Rattle.captions.specs.Captions.{Keys, Ciphers}
+use Rattle.captions.specs.Calls.{pairTests, writing, clearing}
 use Rattle.captions.specs.Runs.{replies, finally, HandedOn}
-use Rattle.captions.specs.Model.{writes, clears, blank, holds, Model, newModel, page, answered, modelStep}
+use Rattle.captions.specs.Model.{Call, writes, clears, blank, holds, Model, newModel, page, answered, modelStep}
 use Rattle.captions.specs.Turns.{Turn, own, stranger, ownCalls, EachStranger, turnModel}
 use Rattle.captions.specs.Claim.{Captions}
-use Rattle.demands.specs.Ciphers.{readingBy, ClassesByMcrypton, CodeWrites, CodeReads, CodeBlanks}
+use Rattle.demands.specs.Ciphers.{readingBy, ClassesByCipher, CodeWrites, CodeReads, CodeBlanks}
 use Rattle.demands.specs.Steps.{Gives, sheetStep, keyRefusal, turnStep, Stranger, Serves, BlankSheet}
+use Rattle.demands.specs.AnyCipher.{FollowsBook}
 use Rattle.demands.specs.Premises.{Premises}
 use Rattle.demands.specs.Witnesses.{Witnesses}
 
@@ -63,8 +67,11 @@ pub record Code : Type 0 where
 pub record Demand3 : Type 0 where
   pub second : (p p′ q : ℕ) (k : Keys) (s : List ℕ) (turns : List Turn) → Serves k s → BlankSheet s → Captions (ownCalls turns) → EachStranger (Stranger s) turns
       → SecondHalf p p′ q k s turns
+  -- the same of writes and clears, whatever cipher seals and checks: E and D undo each other on blocks of 8 bytes, and M makes blocks of blocks
+  pub any-cipher : (x : Ciphers) (k : Keys) (s : List ℕ) (calls : List Call) → Invertible (x .E) (x .D) → ((b : List ℕ) → ByteBlock b → ByteBlock (x .M b)) → BlankSheet s
+      → firstOf (pairTests (editionOf s) x k s) ≡ Pass → Captions calls → FollowsBook x k s calls
   pub first : (k : List ℕ) → Key k → FirstHalf k
   pub premises : Premises
   pub witnesses : Witnesses
   pub code : Code
-  pub ciphers : ClassesByMcrypton
+  pub ciphers : ClassesByCipher

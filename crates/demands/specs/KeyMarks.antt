@@ -6,12 +6,11 @@ use mathlib.Core.List.{List, [], _∷_}
 use Rattle.octets.specs.Clauses.{Clause, _when_, Exactly}
 use lib.ListN.{length}
 use Rattle.octets.specs.Bytes.{zeros}
-use Rattle.cipher.specs.Key.{keyBytes}
 use Rattle.layout.specs.Layout.{keyClass, editionByte, storedMark}
-use Rattle.layout.specs.Rules.{MeetsLayout}
+use Rattle.layout.specs.Rules.{KeyFits, MeetsLayout}
 use Rattle.captions.specs.Captions.{Keys, markFor}
 use Rattle.captions.specs.Refusals.{RightKeys, OtherMark}
-use Rattle.demands.specs.Ciphers.{byPaths, writingBy, readingBy, ClassesByMcrypton}
+use Rattle.demands.specs.Ciphers.{byPaths, writingBy, readingBy, ClassesByCipher}
 use Rattle.demands.specs.Steps.{Gives, keyRefusal}
 
 -- a pair of keys that meets none of 1, 2 and 5 with s, a sheet that meets the layout of edition 3, and whose key mark, by p, is another
@@ -20,7 +19,7 @@ pub record OtherPair (p : ℕ) (k : Keys) (s : List ℕ) : Type 0 where
   pub edition : editionByte s ≡ 3
   pub right : RightKeys k
   pub unlike : k .sealing ≢ k .checking
-  pub class : length (k .sealing) ≡ keyBytes (keyClass s)
+  pub class : KeyFits (length (k .sealing)) (keyClass s)
   pub mark : markFor (byPaths (keyClass s) p p k) s ≢ storedMark s
 
 -- what a pair meets with a sheet: 1 2 5 14
@@ -28,7 +27,7 @@ unfoldable pub pairClauses : Keys → List ℕ → List Clause
 pairClauses k s =
     (1 when (RightKeys k → ⊥))
     ∷ (2 when (k .sealing ≡ k .checking))
-    ∷ (5 when (length (k .sealing) ≡ keyBytes (keyClass s) → ⊥))
+    ∷ (5 when (KeyFits (length (k .sealing)) (keyClass s) → ⊥))
     ∷ (14 when OtherMark (byPaths (keyClass s) 0 0 k) s)
     ∷ []
 
@@ -49,7 +48,7 @@ pub record KeyMarks : Type 0 where
   pub old-write : (p : ℕ) (k : Keys) (s : List ℕ) (i : ℕ) (c : List ℕ) → editionByte s ≢ 3 → (writingBy p k s i c) .number ≢ 14
   pub old-read : (p q : ℕ) (k : Keys) (s : List ℕ) (i : ℕ) (window : List ℕ) → editionByte s ≢ 3 → (readingBy p q k s i window) .number ≢ 14
   -- nothing else is asked of another pair
-  pub ask : (p : ℕ) (k : Keys) (s : List ℕ) → MeetsLayout s → editionByte s ≡ 3 → RightKeys k → k .sealing ≢ k .checking → length (k .sealing) ≡ keyBytes (keyClass s)
+  pub ask : (p : ℕ) (k : Keys) (s : List ℕ) → MeetsLayout s → editionByte s ≡ 3 → RightKeys k → k .sealing ≢ k .checking → KeyFits (length (k .sealing)) (keyClass s)
       → markFor (byPaths (keyClass s) p p k) s ≢ storedMark s → OtherPair p k s
-  -- the cipher of the mark is mCrypton
-  pub ciphers : ClassesByMcrypton
+  -- the cipher of the mark is that of the class
+  pub ciphers : ClassesByCipher

@@ -4,6 +4,7 @@ pub mod Demand1
 pub mod Demand2
 pub mod Premises
 pub mod Witnesses
+pub mod AnyCipher
 pub mod Demand3
 pub mod NoStrangers
 pub mod Serials

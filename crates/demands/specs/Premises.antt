@@ -1,14 +1,14 @@
 -- The premises of demand 3 can be met, and ask for no more than they seem to: each is pinned both ways.
 use Prim.Native.Nat.{ℕ, _*_, _≤_, _<_}
 use mathlib.Core.Path.{_≡_}
-use mathlib.Core.Logic.{_≢_}
+use mathlib.Core.Logic.{_≢_, _↔_}
 use mathlib.Core.Bool.{true}
 use mathlib.Core.List.{List, [], _∷_, _++_}
 use lib.ListN.{length}
 use Rattle.octets.specs.Bytes.{Bytes, be, zeros}
 use Rattle.octets.specs.Clauses.{OneOf}
 use Rattle.mcrypton.specs.Claims.{FirstAsks}
-use Rattle.cipher.specs.Key.{classKnown, keyBytes}
+use Rattle.cipher.specs.Key.{mcryptonClass, classKnown, keyBytes}
 use Rattle.layout.specs.Layout.{Edition, edition1, edition2, edition3, editionOf, slots, keyClass, serial, slotCount, storedMark, fit, blankSlot, blankSheet1, blankSheet2, blankSheet}
 use Rattle.captions.specs.Captions.{Keys, markFor}
 use Rattle.captions.specs.Calls.{blanking}
@@ -18,10 +18,10 @@ use Rattle.captions.specs.Claim.{AskedOfCalls}
 use Rattle.demands.specs.Ciphers.{byPaths}
 use Rattle.demands.specs.Steps.{Gives, keyRefusal, Stranger, Serves, BlankSheet}
 
--- the blank sheets of each edition, with n slots and keys of class t; in editions 2 and 3 with a serial x, and in edition 3 with a key mark m of six bytes, too
+-- the blank sheets of each edition, with n slots and keys of class t, which is one of mCrypton's in editions 1 and 2; in editions 2 and 3 with a serial x, and in edition 3 with a key mark m of six bytes, too
 pub data Blanked : Edition → ℕ → ℕ → List ℕ → Type 0 where
-  one : (n t : ℕ) → slotCount n ≡ true → classKnown t ≡ true → Blanked edition1 n t (blankSheet1 n t)
-  two : (n t x : ℕ) → slotCount n ≡ true → classKnown t ≡ true → x < 65536 → Blanked edition2 n t (blankSheet2 n t x)
+  one : (n t : ℕ) → slotCount n ≡ true → mcryptonClass t ≡ true → Blanked edition1 n t (blankSheet1 n t)
+  two : (n t x : ℕ) → slotCount n ≡ true → mcryptonClass t ≡ true → x < 65536 → Blanked edition2 n t (blankSheet2 n t x)
   three : (n t x : ℕ) (m : List ℕ) → slotCount n ≡ true → classKnown t ≡ true → x < 65536 → Bytes m → length m ≡ 6 → Blanked edition3 n t (blankSheet n t x m)
 
 -- unlike keys of class t: bytes, as many as the class has, and not equal
@@ -39,11 +39,15 @@ pub record ByBlanking (k : Keys) (s : List ℕ) : Type 0 where
   pub serves : Serves k s
 
 pub record Premises : Type 0 where
-  -- n from 1 to 256, and t = 4, 6 or 8 with keys of 8, 12 or 16 bytes
+  -- n from 1 to 256, and t = 4, 6 or 8 with keys of 8, 12 or 16 bytes, or 21 or 24 with keys of 10 or 16
   pub counts : (n : ℕ) → 1 ≤ n → n ≤ 256 → slotCount n ≡ true
   pub class-4 : (classKnown 4 ≡ true) × (keyBytes 4 ≡ 8)
   pub class-6 : (classKnown 6 ≡ true) × (keyBytes 6 ≡ 12)
   pub class-8 : (classKnown 8 ≡ true) × (keyBytes 8 ≡ 16)
+  pub class-21 : (classKnown 21 ≡ true) × (keyBytes 21 ≡ 10)
+  pub class-24 : (classKnown 24 ≡ true) × (keyBytes 24 ≡ 16)
+  -- mCrypton's, which editions 1 and 2 have, are the first three
+  pub mcryptons : (t : ℕ) → (mcryptonClass t ≡ true) ↔ OneOf (4 ∷ 6 ∷ 8 ∷ []) t
   -- a blank sheet is exactly one of these, in each edition
   pub made : {e : Edition} {n t : ℕ} {s : List ℕ} → Blanked e n t s → BlankSheet s
   pub only : (s : List ℕ) → BlankSheet s → Blanked (editionOf s) (slots s) (keyClass s) s

@@ -1,8 +1,8 @@
--- Demand 3 at work: the model on some calls, a run on a sheet in which an answer depends on the call before, and strangers of each number.
+-- Demand 3 at work: the model on some calls, a run on a sheet in which an answer depends on the call before, strangers of each number, and sheets for PRESENT.
 use Prim.Native.Nat.{ℕ}
 use mathlib.Core.Path.{_≡_}
 use mathlib.Core.List.{List, [], _∷_}
-use lib.ListN.{replicate}
+use lib.ListN.{replicate, take}
 use Rattle.octets.specs.Bytes.{zeros}
 use Rattle.layout.specs.Layout.{slots, blankSheet}
 use Rattle.captions.specs.Captions.{Keys, pair, keyMark}
@@ -82,7 +82,20 @@ pub record StrangersMet (s : List ℕ) : Type 0 where
   pub mark : keyMark (byPaths 4 0 0 firstPair) 2 4 0x5a04 ≡ 0x91 ∷ 0xa0 ∷ 0x8f ∷ 0x35 ∷ 0x74 ∷ 0x63 ∷ []
   pub exchanged : keyMark (byPaths 4 0 0 (pair (replicate 8 1) (zeros 8))) 2 4 0x5a04 ≡ 0x3b ∷ 0x5a ∷ 0x0e ∷ 0x51 ∷ 0xac ∷ 0x7c ∷ []
 
+-- ---- sheets that blanking makes for PRESENT, with a pair of bytes that all differ
+
+abbrev pub risingPair : ℕ → Keys
+risingPair n = pair (take n (0 ∷ 1 ∷ 2 ∷ 3 ∷ 4 ∷ 5 ∷ 6 ∷ 7 ∷ 8 ∷ 9 ∷ 10 ∷ 11 ∷ 12 ∷ 13 ∷ 14 ∷ 15 ∷ []))
+    (take n (16 ∷ 17 ∷ 18 ∷ 19 ∷ 20 ∷ 21 ∷ 22 ∷ 23 ∷ 24 ∷ 25 ∷ 26 ∷ 27 ∷ 28 ∷ 29 ∷ 30 ∷ 31 ∷ []))
+
+-- t is 21 or 24, the keys have n bytes, and m is the key mark, as the second program computes it
+pub record PresentMet (t n : ℕ) (m : List ℕ) : Type 0 where
+  pub blanked : Gives (blanking (risingPair n) (zeros 432) 2 t 0x5a04) 0 0 (blankSheet 2 t 0x5a04 m)
+  pub sheet : ByBlanking (risingPair n) (blankSheet 2 t 0x5a04 m)
+
 pub record Witnesses : Type 0 where
   pub model : ModelRun
   pub worn : WornRun
   pub strangers : StrangersMet strangersSheet
+  pub present-80 : PresentMet 21 10 (0x48 ∷ 0x66 ∷ 0x69 ∷ 0x8a ∷ 0x92 ∷ 0xf4 ∷ [])
+  pub present-128 : PresentMet 24 16 (0xe1 ∷ 0xc0 ∷ 0x00 ∷ 0x76 ∷ 0x23 ∷ 0x38 ∷ [])

@@ -9,7 +9,8 @@ use Rattle.octets.specs.Bytes.{if_then_else_, be, number, zeros, put, allZero, 
 use Rattle.octets.specs.Outcome.{_gives_, decided}
 use Rattle.text.specs.Grammar.{forms, inside, after, some, meets, wellFormed}
 use Rattle.mcrypton.specs.Bytes.{keyLength}
-use Rattle.mcrypton.specs.Calls.{blockOutcome, blockTests, blockCall, encrypting, decrypting}
+use Rattle.octets.specs.BlockCalls.{blockOutcome, blockTests, blockCall}
+use Rattle.mcrypton.specs.Calls.{encrypting, decrypting}
 use Rattle.mcrypton.proofs.Refusals.{block-refusals}
 use Rattle.chip_bench.specs.Calls.{benchOutcome, benchTests, benching}
 use Rattle.chip_bench.specs.declared.BenchAnswer.the-variants.{Accepted as BenchAccepted}
@@ -33,7 +34,7 @@ use Rattle.calendar.specs.Calendar as Calendar
 use Rattle.calendar.proofs.Laws.{calendar-laws}
 use Rattle.listing.specs.Ascii.{ascii}
 use Rattle.listing.specs.Listing.{digits, decimal, line, headLine, blankLine, writtenLine, slotLine, slotLines, keyBits, listable, listing, listed}
-use Rattle.exhibits.specs.Values.{sealingKey, checkingKey, block, encryptedBlock, decryptedBlock, wanted, leading, abc, abcCheck, newSheet, blankOne, abcField, abcMark, twoMark, writtenOne, checkChanged, lengthTwo, clearedOne, nearlyWorn, lastField, lastMark, wornOne, keys, fifthDay}
+use Rattle.exhibits.specs.Values.{sealingKey, checkingKey, block, encryptedBlock, decryptedBlock, wanted, leading, abc, abcCheck, newSheet, blankOne, abcField, abcMark, twoMark, writtenOne, checkChanged, lengthTwo, clearedOne, nearlyWorn, lastField, lastMark, wornOne, keys, tenBytes, fifthDay}
 use Rattle.exhibits.specs.Exhibits.{Exhibits}
 use Rattle.exhibits.proofs.Sealed.{loadedKeys, block-leads, text-checked, mark-made, field-sealed, field-opened, field-checked, two-checked, last-sealed, last-checked}
 
@@ -103,6 +104,18 @@ worn-whole = refl
 short-sheet : writing keys (1 ∷ 2 ∷ 3 ∷ []) 0 abc ≡ record { number = 4; len = 0; points = record { rule = 1; slot = 0; place = 0 }; bytes = 1 ∷ 2 ∷ 3 ∷ [] }
 unfolding writing writingWith writeTests keyTests sheetTests decided wrongKeys sheetKeyLength same fitIn faults firstIn firstFault headerPoint faultPoint outcome answerNumber answerLength answerPoint
 short-sheet = refl
+
+ten-short : writing tenBytes (1 ∷ 2 ∷ 3 ∷ []) 0 abc ≡ record { number = 4; len = 0; points = record { rule = 1; slot = 0; place = 0 }; bytes = 1 ∷ 2 ∷ 3 ∷ [] }
+unfolding writing writingWith writeTests keyTests sheetTests decided wrongKeys sheetKeyLength same fitIn faults firstIn firstFault headerPoint faultPoint outcome answerNumber answerLength answerPoint zeros
+ten-short = refl
+
+ten-bytes : writing tenBytes blankOne 0 abc ≡ plain 5 0 blankOne
+unfolding writing writingWith writeTests captionTests decided wrongKeys otherClass otherKeys sheetKeyLength keyBytes same keyTests classTests sheetTests number zeros be allZero allBelow slots keyClass editionByte lastWrite rule1 mcryptonClass editionOf sheetSize markAt fieldAt slotCount mark field markNumber markLength writtenMark blankSlot fitSlot fitIn outcome answerNumber answerLength answerPoint
+ten-bytes = refl
+
+present-old : reading tenBytes (0 ∷ 1 ∷ 21 ∷ 1 ∷ zeros 212) 0 (replicate 192 7) ≡ record { number = 4; len = 0; points = record { rule = 3; slot = 0; place = 0 }; bytes = zeros 192 }
+unfolding reading readingWith readTests openTests windowTests keyTests sheetTests decided wrongKeys sheetKeyLength same number zeros allZero allBelow slots keyClass editionByte rule1 mcryptonClass editionOf sheetSize slotCount fitIn faults firstIn firstFault headerPoint faultPoint outcome answerNumber answerLength answerPoint
+present-old = refl
 
 not-written : writing keys blankOne 0 (zeros 193) ≡ plain 7 0 blankOne
 unfolding writing writingWith writeTests captionTests decided wrongKeys otherClass otherKeys sheetKeyLength keyBytes same keyTests classTests sheetTests number zeros be allZero allBelow slots keyClass editionByte lastWrite rule1 mcryptonClass editionOf sheetSize markAt fieldAt slotCount mark field markNumber markLength writtenMark blankSlot fitSlot fitIn outcome answerNumber answerLength answerPoint
@@ -231,6 +244,9 @@ exhibits =
       last-written = last-written;
       worn = worn-whole;
       short = short-sheet;
+      ten-short = ten-short;
+      ten-bytes = ten-bytes;
+      present-old = present-old;
       cleared = cleared-whole;
       not-cleared = not-cleared;
       read = read-whole;

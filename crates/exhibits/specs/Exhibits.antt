@@ -13,7 +13,7 @@ use Rattle.dated.specs.Calls.{dating}
 use Rattle.calendar.specs.Calendar.{dayOfDate, dateOfDay}
 use Rattle.listing.specs.Ascii.{ascii}
 use Rattle.listing.specs.Listing.{listed}
-use Rattle.exhibits.specs.Values.{sealingKey, checkingKey, block, encryptedBlock, decryptedBlock, wanted, leading, abc, abcCheck, newSheet, blankOne, writtenOne, checkChanged, lengthTwo, clearedOne, nearlyWorn, wornOne, keys, fifthDay}
+use Rattle.exhibits.specs.Values.{sealingKey, checkingKey, block, encryptedBlock, decryptedBlock, wanted, leading, abc, abcCheck, newSheet, blankOne, writtenOne, checkChanged, lengthTwo, clearedOne, nearlyWorn, wornOne, keys, tenBytes, fifthDay}
 
 pub record Exhibits : Type 0 where
   -- a block, and a key of 7 bytes
@@ -45,6 +45,10 @@ pub record Exhibits : Type 0 where
   pub worn : writing keys wornOne 0 abc ≡ record { number = 8; len = 0; points = record { rule = 0; slot = 0; place = 0 }; bytes = wornOne }
   -- a sheet of three bytes, which rule 1 points at
   pub short : writing keys (1 ∷ 2 ∷ 3 ∷ []) 0 abc ≡ record { number = 4; len = 0; points = record { rule = 1; slot = 0; place = 0 }; bytes = 1 ∷ 2 ∷ 3 ∷ [] }
+  -- keys of 10 bytes, which are PRESENT's, pass the key test: on that sheet they meet 4, and 5 on one for mCrypton; 21 in byte 2 of edition 1, which rule 3 points at
+  pub ten-short : writing tenBytes (1 ∷ 2 ∷ 3 ∷ []) 0 abc ≡ record { number = 4; len = 0; points = record { rule = 1; slot = 0; place = 0 }; bytes = 1 ∷ 2 ∷ 3 ∷ [] }
+  pub ten-bytes : writing tenBytes blankOne 0 abc ≡ record { number = 5; len = 0; points = record { rule = 0; slot = 0; place = 0 }; bytes = blankOne }
+  pub present-old : reading tenBytes (0 ∷ 1 ∷ 21 ∷ 1 ∷ zeros 212) 0 (replicate 192 7) ≡ record { number = 4; len = 0; points = record { rule = 3; slot = 0; place = 0 }; bytes = zeros 192 }
   -- a clear, which leaves 208 zeros, and a slot that there isn't
   pub cleared : clearing writtenOne 0 ≡ record { number = 0; len = 0; points = record { rule = 0; slot = 0; place = 0 }; bytes = clearedOne }
   pub not-cleared : clearing writtenOne 1 ≡ record { number = 6; len = 0; points = record { rule = 0; slot = 0; place = 0 }; bytes = writtenOne }

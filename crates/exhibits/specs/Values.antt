@@ -1,6 +1,7 @@
 -- The bytes of the calls that are exhibited. What keys, blocks, checks and sealed fields come to, the second program made.
 use Prim.Native.Nat.{ℕ}
 use mathlib.Core.List.{List, [], _∷_, _++_}
+use lib.ListN.{replicate}
 use Rattle.octets.specs.Bytes.{zeros}
 use Rattle.captions.specs.Captions.{Keys, pair}
 
@@ -107,6 +108,10 @@ wornOne = 0 ∷ 1 ∷ 4 ∷ 1 ∷ 255 ∷ 255 ∷ 255 ∷ 255 ∷ (255 ∷ 255 �
 
 abbrev pub keys : Keys
 keys = pair sealingKey checkingKey
+
+-- keys of 10 bytes
+abbrev pub tenBytes : Keys
+tenBytes = pair (zeros 10) (replicate 10 1)
 
 -- terms of one slot, on show on day 5 alone
 abbrev pub fifthDay : List ℕ

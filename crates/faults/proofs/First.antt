@@ -14,12 +14,12 @@ use Rattle.octets.specs.Outcome.{Row, _gives_}
 use Rattle.octets.specs.Clauses.{Each, none, and}
 use Rattle.octets.proofs.Bool.{and-left, and-right, and-both}
 use Rattle.octets.proofs.Clauses.{Reflects, reflects-not, reflects-and, reflects-or, reflects-as, reflects-eqb, reflects-leb, reflects-ltb, reflects-yes}
-use Rattle.cipher.specs.Key.{mcryptonClass}
+use Rattle.cipher.specs.Key.{mcryptonClass, classKnown}
 use Rattle.layout.specs.Layout.{Edition, edition1, edition2, editionOf, rule1, rule2, rule3, slots, keyClass, editionByte, lastWrite, slotCount, sheetSize, markNumber, markLength, mark, blankSlot, fitSlot, fit}
-use Rattle.layout.specs.Rules.{Words, MeetsLayout}
+use Rattle.layout.specs.Rules.{MeetsLayout}
 use Rattle.layout.proofs.Header.{edition-cases, count-low, count-high, count-within}
 use Rattle.layout.proofs.Fits.{Rules, Fits, fit-facts, fits-fit, length-mark}
-use Rattle.layout.proofs.Meaning.{reflects-words, reflects-fit}
+use Rattle.layout.proofs.Meaning.{reflects-class, reflects-fit}
 use Rattle.faults.specs.Faults.{Point, faultPoint, headerPoint, markPoint, firstSet, wrongNumber, editionKnown, slotFaults, faults, firstIn, firstFault}
 use Rattle.faults.specs.First.{Breaks, order, short, count, class, edition, header-byte, size, number, caption, mark-byte}
 use Rattle.faults.specs.declared.HeaderRule.{HeaderRule}
@@ -91,7 +91,7 @@ module _ (s : List ℕ) where
   ordered =
       row {n = 0} {f = Header Short} (λ t. short (ltb-true (length s) 8 t)) (omega arith)
       (row {n = order (Header Short)} {f = Header Count} (λ t. count (reflects-count .holds t)) (omega arith)
-      (row {n = order (Header Count)} {f = Header Class} (λ t. class (reflects-not (reflects-words (keyClass s)) .holds t)) (omega arith)
+      (row {n = order (Header Count)} {f = Header Class} (λ t. class (reflects-not (reflects-class s (keyClass s)) .holds t)) (omega arith)
       (row {n = order (Header Class)} {f = Header EditionRule} (λ t. edition (reflects-edition .holds t)) (omega arith)
       (row {n = order (Header EditionRule)} {f = Header (HeaderZero (firstSet s 10 6))} header-zero (omega (arith, set-low s 10 6))
       (row {n = order (Header (HeaderZero (firstSet s 10 6)))} {f = Header SheetLength} (λ t. size (reflects-size .holds t)) (omega (arith, set-high s 10 6))
@@ -124,7 +124,7 @@ module _ (s : List ℕ) where
   unfolding faults order
   covered f p (short h) = at (Header Short) (here (lt-ltb (length s) 8 h))
   covered f p (count h) = at (Header Count) (there (here (reflects-yes reflects-count h)))
-  covered f p (class h) = at (Header Class) (there (there (here (reflects-yes (reflects-not (reflects-words (keyClass s))) h))))
+  covered f p (class h) = at (Header Class) (there (there (here (reflects-yes (reflects-not (reflects-class s (keyClass s))) h))))
   covered f p (edition h) = at (Header EditionRule) (there (there (there (here (reflects-yes reflects-edition h)))))
   covered f p (header-byte j e l h d) =
       record {
@@ -150,16 +150,16 @@ module _ (s : List ℕ) where
 
   -- ---- no fault, and the layout
 
-  -- the header's rule of the edition is that of three rows
-  record Header3 : Type 0 where
-    class : mcryptonClass (keyClass s) ≡ true
+  -- the header's rule of the edition e is that of three rows
+  record Header3 (e : Edition) : Type 0 where
+    class : e .classes (keyClass s) ≡ true
     known : editionKnown (editionByte s) ≡ true
     zero-bytes : eqb (editionByte s) 2 && not (allZero (part s 10 6)) ≡ false
 
-  rule-rows : editionOf s .rule s ≡ true → Header3
+  rule-rows : editionOf s .rule s ≡ true → Header3 (editionOf s)
   unfolding rule1 rule2 rule3 editionKnown
   rule-rows =
-      edition-cases (λ e. e .rule s ≡ true → Header3) s
+      edition-cases (λ e. e .rule s ≡ true → Header3 e) s
       (λ g f h. record {
         class = and-left (mcryptonClass (keyClass s)) _ h;
         known = rw (and-right (mcryptonClass (keyClass s)) _ h);
@@ -170,15 +170,15 @@ module _ (s : List ℕ) where
         known = rw g;
         zero-bytes = rw (and-left (eqb (editionByte s) 2) _ z, and-right (eqb (editionByte s) 2) _ z);
       })
-      (λ g h. record { class = and-left (mcryptonClass (keyClass s)) _ h; known = rw g; zero-bytes = rw g })
+      (λ g h. record { class = and-left (classKnown (keyClass s)) _ h; known = rw g; zero-bytes = rw g })
 
-  rows-rule : Header3 → editionOf s .rule s ≡ true
+  rows-rule : Header3 (editionOf s) → editionOf s .rule s ≡ true
   unfolding rule1 rule2 rule3 editionKnown
-  rows-rule r =
-      edition-cases (λ e. e .rule s ≡ true) s
-      (λ g f. rw (r .class) (one (eqb (editionByte s) 1) (eqb (editionByte s) 2) (eqb (editionByte s) 3) (ne-eqb (editionByte s) 2 g) (ne-eqb (editionByte s) 3 f) (r .known)))
-      (λ g. rw (r .class, eq-eqb (editionByte s) 2 g) (two (allZero (part s 10 6)) (rw (eq-eqb (editionByte s) 2 g) at (r .zero-bytes))))
-      (λ g. rw (r .class, eq-eqb (editionByte s) 3 g))
+  rows-rule =
+      edition-cases (λ e. Header3 e → e .rule s ≡ true) s
+      (λ g f r. and-both (mcryptonClass (keyClass s)) _ (r .class) (one (eqb (editionByte s) 1) (eqb (editionByte s) 2) (eqb (editionByte s) 3) (ne-eqb (editionByte s) 2 g) (ne-eqb (editionByte s) 3 f) (r .known)))
+      (λ g r. and-both (mcryptonClass (keyClass s)) _ (r .class) (and-both (eqb (editionByte s) 2) _ (eq-eqb (editionByte s) 2 g) (two (allZero (part s 10 6)) (rw (eq-eqb (editionByte s) 2 g) at (r .zero-bytes)))))
+      (λ g r. and-both (classKnown (keyClass s)) _ (r .class) (eq-eqb (editionByte s) 3 g))
     where
       one : (a b c : Bool) → b ≡ false → c ≡ false → a || (b || c) ≡ true → a ≡ true
       one true b c f g h = refl
@@ -204,7 +204,7 @@ module _ (s : List ℕ) where
       let h = rule-rows (r .rule) in
       row (le-ltb (length s) 8 (r .long))
       (row {t = not (slotCount (slots s))} (rw (r .count))
-      (row {t = not (mcryptonClass (keyClass s))} (rw (h .class))
+      (row {t = not (editionOf s .classes (keyClass s))} (rw (h .class))
       (row {t = not (editionKnown (editionByte s))} (rw (h .known))
       (row (h .zero-bytes)
       (row {t = not (eqb (length s) (sheetSize (editionOf s .header) (slots s)))} (rw (eq-eqb (length s) (sheetSize (editionOf s .header) (slots s)) (r .size)))

@@ -11,9 +11,8 @@ use lib.ListN.{length, getD}
 use Rattle.octets.specs.Bytes.{if_then_else_, number, part, allZero}
 use Rattle.octets.specs.Outcome.{decided}
 use Rattle.octets.proofs.Bool.{and-right}
-use Rattle.cipher.specs.Key.{mcryptonClass}
 use Rattle.layout.specs.Layout.{editionOf, slots, keyClass, editionByte, slotCount, sheetSize}
-use Rattle.layout.proofs.Header.{class-read, edition-read}
+use Rattle.layout.proofs.Header.{edition-read}
 use Rattle.faults.specs.Faults.{editionKnown, firstSet, firstIn, faults, firstFault}
 use Rattle.faults.specs.Inner.{zeroPlace, slotsFault, sizeFault}
 use Rattle.faults.specs.declared.HeaderRule.the-variants.{Short, Count, Class, Edition, Zero, Length}
@@ -38,7 +37,7 @@ module _ (s : List ℕ) where
   unfolding firstFault firstIn faults decided
   fault-short h = rw (lt-ltb (length s) 8 h)
 
-  -- n, c and v are what was read of bytes 0 to 3; r, k and q what was found of them
+  -- n and v are what was read of bytes 0, 1 and 3; r, k and q what was found of them and of byte 2
   module _ (l : 8 ≤ length s) (n : ℕ) (en : n ≡ number (part s 0 2)) (r : Bool) (er : r ≡ slotCount n) where
     count-is : slotCount (slots s) ≡ r
     unfolding slots
@@ -48,13 +47,10 @@ module _ (s : List ℕ) where
     unfolding firstFault firstIn faults decided
     fault-count t = rw (le-ltb (length s) 8 l, count-is, t)
 
-    module _ (tr : r ≡ true) (c : ℕ) (ec : c ≡ getD s 2 0) (k : Bool) (ek : k ≡ mcryptonClass c) where
-      class-is : mcryptonClass (keyClass s) ≡ k
-      class-is = ap mcryptonClass (sym (class-read s c l ec)) ∙ sym ek
-
+    module _ (tr : r ≡ true) (k : Bool) (ek : k ≡ editionOf s .classes (keyClass s)) where
       pub fault-class : k ≡ false → Header Class ≡ firstFault s
       unfolding firstFault firstIn faults decided
-      fault-class t = rw (le-ltb (length s) 8 l, count-is, tr, class-is, t)
+      fault-class t = rw (le-ltb (length s) 8 l, count-is, tr, ← ek, t)
 
       module _ (tk : k ≡ true) (v : ℕ) (ev : v ≡ getD s 3 0) (q : Bool) (eq : q ≡ editionKnown v) where
         edition-is : editionKnown (editionByte s) ≡ q
@@ -62,14 +58,14 @@ module _ (s : List ℕ) where
 
         pub fault-edition : q ≡ false → Header Edition ≡ firstFault s
         unfolding firstFault firstIn faults decided
-        fault-edition t = rw (le-ltb (length s) 8 l, count-is, tr, class-is, tk, edition-is, t)
+        fault-edition t = rw (le-ltb (length s) 8 l, count-is, tr, ← ek, tk, edition-is, t)
 
         -- z is what was found of the zero bytes
         module _ (tq : q ≡ true) (z : ℕ) (ez : z ≡ zeroPlace s) where
           pub fault-zero : z < 16 → Header (Zero z) ≡ firstFault s
           unfolding firstFault firstIn faults decided zeroPlace
           fault-zero h =
-              rw (le-ltb (length s) 8 l, count-is, tr, class-is, tk, edition-is, tq)
+              rw (le-ltb (length s) 8 l, count-is, tr, ← ek, tk, edition-is, tq)
               (go (eqb (editionByte s) 2 && not (allZero (part s 10 6))) ez _)
             where
               go : (b : Bool) → z ≡ (if b then firstSet s 10 6 else 16) → (rest : Fault) → Header (Zero z) ≡ (if b then Header (Zero (firstSet s 10 6)) else rest)
@@ -80,7 +76,7 @@ module _ (s : List ℕ) where
           unfolding firstFault firstIn faults decided zeroPlace sizeFault slotsFault
           fault-rest g x e =
               e
-              ∙ rw (le-ltb (length s) 8 l, count-is, tr, class-is, tk, edition-is, tq, none (eqb (editionByte s) 2) (allZero (part s 10 6)) refl ez, sub-zero)
+              ∙ rw (le-ltb (length s) 8 l, count-is, tr, ← ek, tk, edition-is, tq, none (eqb (editionByte s) 2) (allZero (part s 10 6)) refl ez, sub-zero)
               (go (eqb (length s) (sheetSize (editionOf s .header) (slots s))) _ _)
             where
               none : (a b : Bool) → allZero (part s 10 6) ≡ b → z ≡ (if a && not b then firstSet s 10 6 else 16) → a && not b ≡ false

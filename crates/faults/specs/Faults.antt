@@ -6,7 +6,6 @@ use lib.Dec.{eqb, leb, ltb}
 use lib.ListN.{length}
 use Rattle.octets.specs.Bytes.{part, allZero}
 use Rattle.octets.specs.Outcome.{Row, _gives_, decided}
-use Rattle.cipher.specs.Key.{mcryptonClass}
 use Rattle.layout.specs.Layout.{Edition, editionOf, slots, keyClass, editionByte, lastWrite, sheetSize, slotCount, markNumber, markLength, mark, blankSlot}
 use Rattle.faults.specs.declared.HeaderRule.{HeaderRule}
 use Rattle.faults.specs.declared.HeaderRule.the-variants.{Short, Count, Class, Edition as EditionRule, Zero as HeaderZero, Length as SheetLength}
@@ -51,7 +50,7 @@ unfoldable pub faults : List ℕ → List (Row Fault)
 faults s =
     (ltb (length s) 8 gives Header Short)
     ∷ (not (slotCount (slots s)) gives Header Count)
-    ∷ (not (mcryptonClass (keyClass s)) gives Header Class)
+    ∷ (not (editionOf s .classes (keyClass s)) gives Header Class)
     ∷ (not (editionKnown (editionByte s)) gives Header EditionRule)
     ∷ (eqb (editionByte s) 2 && not (allZero (part s 10 6)) gives Header (HeaderZero (firstSet s 10 6)))
     ∷ (not (eqb (length s) (sheetSize (editionOf s .header) (slots s))) gives Header SheetLength)

@@ -6,8 +6,9 @@ use mathlib.Core.List.{List, [], _∷_, _++_}
 use mathlib.Core.Logic.{_↔_, _⊎_}
 use lib.ListN.{length, getD}
 use Rattle.octets.specs.Bytes.{zeros}
+use Rattle.octets.specs.Clauses.{OneOf}
 use Rattle.layout.specs.Layout.{editionOf, slots, keyClass, editionByte, lastWrite, markNumber, markLength, mark, blankSlot, fit}
-use Rattle.layout.specs.Rules.{Words, MeetsLayout}
+use Rattle.layout.specs.Rules.{MeetsLayout}
 use Rattle.faults.specs.Faults.{Point, point, firstFault, faultPoint}
 use Rattle.faults.specs.declared.HeaderRule.the-variants.{Short, Count, Class, Edition as EditionRule, Zero as HeaderZero, Length as SheetLength}
 use Rattle.faults.specs.declared.MarkRule.the-variants.{Number, Length, Zero}
@@ -18,7 +19,7 @@ use Rattle.faults.specs.declared.Fault.the-variants.{Nothing, Header, Ma
 pub data Breaks (s : List ℕ) : Fault → Point → Type 0 where
   short : length s < 8 → Breaks s (Header Short) (point 1 0 0)
   count : ((1 ≤ slots s) × (slots s ≤ 256) → ⊥) → Breaks s (Header Count) (point 2 0 0)
-  class : (Words (keyClass s) → ⊥) → Breaks s (Header Class) (point 3 0 0)
+  class : (OneOf (4 ∷ 6 ∷ 8 ∷ []) (keyClass s) ⊎ ((editionByte s ≡ 3) × OneOf (21 ∷ 24 ∷ []) (keyClass s)) → ⊥) → Breaks s (Header Class) (point 3 0 0)
   edition : ((editionByte s ≡ 1) ⊎ ((editionByte s ≡ 2) ⊎ (editionByte s ≡ 3)) → ⊥) → Breaks s (Header EditionRule) (point 4 0 0)
   header-byte : (j : ℕ) → editionByte s ≡ 2 → 10 ≤ j → j < 16 → (getD s j 0 ≡ 0 → ⊥) → Breaks s (Header (HeaderZero j)) (point 5 0 j)
   size : (length s ≡ editionOf s .header + 208 * slots s → ⊥) → Breaks s (Header SheetLength) (point 6 0 0)
@@ -31,7 +32,8 @@ pub data Breaks (s : List ℕ) : Fault → Point → Type 0 where
 pub record Suffices (s : List ℕ) : Type 0 where
   pub short-by : length s < 8 → Breaks s (Header Short) (point 1 0 0)
   pub count-by : (slots s ≡ 0) ⊎ (256 < slots s) → Breaks s (Header Count) (point 2 0 0)
-  pub class-by : (keyClass s ≡ 4 → ⊥) → (keyClass s ≡ 6 → ⊥) → (keyClass s ≡ 8 → ⊥) → Breaks s (Header Class) (point 3 0 0)
+  pub class-by : (keyClass s ≡ 4 → ⊥) → (keyClass s ≡ 6 → ⊥) → (keyClass s ≡ 8 → ⊥) → (editionByte s ≡ 3 → (keyClass s ≡ 21) ⊎ (keyClass s ≡ 24) → ⊥)
+      → Breaks s (Header Class) (point 3 0 0)
   pub edition-by : (editionByte s ≡ 1 → ⊥) → (editionByte s ≡ 2 → ⊥) → (editionByte s ≡ 3 → ⊥) → Breaks s (Header EditionRule) (point 4 0 0)
   pub header-byte-by : (j : ℕ) → editionByte s ≡ 2 → 10 ≤ j → j ≤ 15 → (getD s j 0 ≡ 0 → ⊥) → Breaks s (Header (HeaderZero j)) (point 5 0 j)
   pub size-by : (length s ≡ editionOf s .header + 208 * slots s → ⊥) → Breaks s (Header SheetLength) (point 6 0 0)
@@ -74,6 +76,11 @@ pub record FaultCases : Type 0 where
   pub no-slots : pointOf (zeros 8) ≡ point 2 0 0
   pub no-class : pointOf (0 ∷ 1 ∷ zeros 6) ≡ point 3 0 0
   pub no-edition : pointOf (0 ∷ 1 ∷ 4 ∷ zeros 5) ≡ point 4 0 0
+  -- 21 and 24 in byte 2 under editions 1 and 2 and an unknown one, and under edition 3
+  pub present-in-1 : pointOf (0 ∷ 1 ∷ 21 ∷ 1 ∷ zeros 4) ≡ point 3 0 0
+  pub present-in-2 : pointOf (0 ∷ 1 ∷ 24 ∷ 2 ∷ zeros 4) ≡ point 3 0 0
+  pub present-in-4 : pointOf (0 ∷ 1 ∷ 21 ∷ 4 ∷ zeros 4) ≡ point 3 0 0
+  pub present-in-3 : (pointOf (0 ∷ 1 ∷ 21 ∷ 3 ∷ zeros 4) ≡ point 6 0 0) × (pointOf (0 ∷ 1 ∷ 24 ∷ 3 ∷ zeros 4) ≡ point 6 0 0)
   -- twelve bytes of edition 2, the last of them set; eight and eleven bytes of it, none of the six set
   pub byte-11 : pointOf (0 ∷ 1 ∷ 4 ∷ 2 ∷ 0 ∷ 0 ∷ 0 ∷ 0 ∷ 0 ∷ 0 ∷ 0 ∷ 1 ∷ []) ≡ point 5 0 11
   pub eight-bytes : pointOf (0 ∷ 1 ∷ 4 ∷ 2 ∷ zeros 4) ≡ point 6 0 0

@@ -136,7 +136,7 @@ pub fn first_fault(s: &[u8]) -> Fault
     if !layout::slot_count(octets::number2(s, 0)) {
         return Fault::Header(HeaderRule::Count);
     }
-    if !cipher::mcrypton_class(octets::byte(s, 2)) {
+    if !layout::class_rule(s) {
         return Fault::Header(HeaderRule::Class);
     }
     if !edition_known(octets::byte(s, 3)) {

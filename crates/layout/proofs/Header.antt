@@ -1,5 +1,5 @@
 -- Laws of the header's fields and its rule, one for each way out of a function that decides them.
-use mathlib.Core.Path.{_≡_, refl, sym, _∙_}
+use mathlib.Core.Path.{_≡_, refl, sym, ap, _∙_}
 use mathlib.Core.Bool.{Bool, true, false, _&&_, _||_, false≢true}
 use mathlib.Core.List.{List}
 use Prim.Native.Nat.{ℕ, _+_, _≤_, _<_}
@@ -124,12 +124,26 @@ no-serial s h = go (eqb (editionByte s) 2) (eqb (editionByte s) 3) refl refl h
 pub header-long : (s : List ℕ) → editionOf s .header ≤ length s → 8 ≤ length s
 header-long s h = omega (arith, header-holds s)
 
-pub rule-class : (s : List ℕ) → editionOf s .rule s ≡ true → classKnown (keyClass s) ≡ true
+pub rule-classes : (s : List ℕ) → editionOf s .rule s ≡ true → editionOf s .classes (keyClass s) ≡ true
 unfolding rule1 rule2 rule3
+rule-classes s =
+    edition-cases (λ e. e .rule s ≡ true → e .classes (keyClass s) ≡ true) s
+    (λ f g. and-left (mcryptonClass (keyClass s)) _) (λ g. and-left (mcryptonClass (keyClass s)) _) (λ g. and-left (classKnown (keyClass s)) _)
+
+pub rule-class : (s : List ℕ) → editionOf s .rule s ≡ true → classKnown (keyClass s) ≡ true
 rule-class s h =
-    mcrypton-known (keyClass s)
-    (edition-cases (λ e. e .rule s ≡ true → mcryptonClass (keyClass s) ≡ true) s
-    (λ f g. and-left (mcryptonClass (keyClass s)) _) (λ g. and-left (mcryptonClass (keyClass s)) _) (λ g. and-left (mcryptonClass (keyClass s)) _) h)
+    edition-cases (λ e. e .classes (keyClass s) ≡ true → classKnown (keyClass s) ≡ true) s
+    (λ f g. mcrypton-known (keyClass s)) (λ g. mcrypton-known (keyClass s)) (λ g c. c) (rule-classes s h)
+
+-- the classes: x is what was read of byte 2, y of byte 3
+module _ (s : List ℕ) (l : 8 ≤ length s) (x : ℕ) (e : x ≡ getD s 2 0) (y : ℕ) (g : y ≡ getD s 3 0) (r : Bool) where
+  pub classes-three : y ≡ 3 → r ≡ classKnown x → r ≡ editionOf s .classes (keyClass s)
+  classes-three q f = f ∙ rw (edition-three s (sym (edition-read s y l g) ∙ q), class-read s x l e)
+
+  pub classes-other : (y ≡ 3 → ⊥) → r ≡ mcryptonClass x → r ≡ editionOf s .classes (keyClass s)
+  classes-other q f =
+      f ∙ rw (class-read s x l e)
+      (edition-cases (λ d. mcryptonClass (keyClass s) ≡ d .classes (keyClass s)) s (λ u v. refl) (λ u. refl) (λ u. absurd (q (edition-read s y l g ∙ u))))
 
 -- y is what was read of byte 3, k what was found of it
 module _ (s : List ℕ) (h : 8 ≤ length s) (y : ℕ) (e : y ≡ getD s 3 0) (k : Bool) (f : k ≡ hasSerial y) where
@@ -181,27 +195,27 @@ module _ (s : List ℕ) (l : editionOf s .header ≤ length s) where
       pub tail-one : k ≡ false → 0 ≡ editionOf s .tail s
       tail-one q = rw (no-serial s (serial-found s (header-long s l) y e k f ∙ q))
 
-  -- the edition's rule: x is what was read of byte 2, k what was found of it
-  module _ (x : ℕ) (e : x ≡ getD s 2 0) (k : Bool) (f : k ≡ mcryptonClass x) where
-    class-found : mcryptonClass (keyClass s) ≡ k
-    class-found = rw (← class-read s x (header-long s l) e, f)
-
+  -- the edition's rule: k is what was found of byte 2
+  module _ (k : Bool) (f : k ≡ editionOf s .classes (keyClass s)) where
     pub rule-other : k ≡ false → false ≡ editionOf s .rule s
     unfolding rule1 rule2 rule3
-    rule-other t = edition-cases (λ (d : Edition). false ≡ d .rule s) s (λ f g. rw (class-found ∙ t)) (λ h. rw (class-found ∙ t)) (λ h. rw (class-found ∙ t))
+    rule-other t = edition-cases (λ (d : Edition). d .classes (keyClass s) ≡ false → false ≡ d .rule s) s (λ f g h. rw h) (λ g h. rw h) (λ g h. rw h) (sym f ∙ t)
 
     module _ (t : k ≡ true) (y : ℕ) (g : y ≡ getD s 3 0) where
+      class-found : (d : Edition) → editionOf s ≡ d → d .classes (keyClass s) ≡ true
+      class-found d q = ap (λ (d : Edition). d .classes (keyClass s)) (sym q) ∙ sym f ∙ t
+
       pub rule-two : y ≡ 2 → (r : Bool) → r ≡ allZero (part s 10 6) → r ≡ editionOf s .rule s
       unfolding rule2
-      rule-two q r u = u ∙ rw (is-two y g q, class-found ∙ t, ← edition-read s y (header-long s l) g, eq-eqb y 2 q)
+      rule-two q r u = u ∙ rw (is-two y g q, class-found edition2 (is-two y g q), ← edition-read s y (header-long s l) g, eq-eqb y 2 q)
 
       pub rule-three : y ≡ 3 → true ≡ editionOf s .rule s
       unfolding rule3
-      rule-three q = rw (is-three y g q, class-found ∙ t, ← edition-read s y (header-long s l) g, eq-eqb y 3 q)
+      rule-three q = rw (is-three y g q, class-found edition3 (is-three y g q), ← edition-read s y (header-long s l) g, eq-eqb y 3 q)
 
       pub rule-one : (y ≡ 2 → ⊥) → (y ≡ 3 → ⊥) → eqb y 1 ≡ editionOf s .rule s
       unfolding rule1
-      rule-one q r = rw (is-one y g q r, class-found ∙ t, ← edition-read s y (header-long s l) g)
+      rule-one q r = rw (is-one y g q r, class-found edition1 (is-one y g q r), ← edition-read s y (header-long s l) g)
 
 -- ---- the size: n is what was read of bytes 0 and 1, r what was found of it
 

@@ -9,7 +9,7 @@ use lib.Dec.{eqb, leb}
 use lib.ListN.{getD, length, take, drop}
 use Rattle.octets.specs.Bytes.{number, part, allZero}
 use Rattle.octets.proofs.Bool.{and-false-left, and-false-right}
-use Rattle.octets.proofs.Numbers.{number-two, number-halves}
+use Rattle.octets.proofs.Numbers.{number-two, number-parts}
 use Rattle.octets.proofs.Parts.{part-add, part-part, part-span}
 use Rattle.octets.proofs.Zeros.{allZero-append}
 use Rattle.layout.specs.declared.Shape.{Shape}
@@ -95,7 +95,7 @@ module _ (s : List ℕ) (h : Shape) (i : ℕ) (p : SlotIn s h i) (byte : (k : �
   two k l = ap (λ (m : List ℕ). number (part m k 2)) mark-is ∙ ap number (part-part s a 16 k 2 l)
 
   halves : y ≡ number (part s (a + 4) 2) * 65536 + number (part s (a + 6) 2)
-  halves = ey ∙ number-halves s (a + 4) (omega (arith, inside)) ∙ ap (λ (k : ℕ). number (part s (a + 4) 2) * 65536 + number (part s k 2)) {x = a + 4 + 2} {y = a + 6} (omega arith)
+  halves = ey ∙ number-parts s (a + 4) 2 2 (omega (arith, inside)) ∙ ap (λ (k : ℕ). number (part s (a + 4) 2) * 65536 + number (part s k 2)) {x = a + 4 + 2} {y = a + 6} (omega arith)
 
   low : number (part s (a + 6) 2) < 65536
   low = omega (arith, number-two s (a + 6) (omega (arith, inside)), byte (a + 6), byte (a + 6 + 1))

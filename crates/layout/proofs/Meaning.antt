@@ -1,22 +1,22 @@
 -- The tests of the layout mean its rules.
-use Prim.Native.Nat.{ℕ, _≤_, _<_}
+use Prim.Native.Nat.{ℕ, _*_, _≤_, _<_}
 use mathlib.Core.Path.{_≡_, refl, sym, ap, _∙_}
 use mathlib.Core.Bool.{Bool, true, false, _&&_, _||_, false≢true}
-use mathlib.Core.List.{List}
-use mathlib.Core.Logic.{_⊎_, inl, inr}
+use mathlib.Core.List.{List, [], _∷_}
+use mathlib.Core.Logic.{_⊎_, ⊎-elim, inl, inr}
 use native.Mathlib.Omega.{arith}
 use lib.Dec.{eqb}
 use lib.ListN.{length}
-use borrow.Author.Tests.{eqb-true, eq-eqb}
-use Rattle.octets.specs.Bytes.{zeros, part, allZero}
+use borrow.Author.Tests.{eqb-true, eqb-false, eq-eqb, ne-eqb}
+use Rattle.octets.specs.Bytes.{if_then_else_, zeros, part, allZero}
+use Rattle.octets.specs.Clauses.{OneOf}
 use Rattle.octets.proofs.Bool.{and-left, and-right, and-both}
-use Rattle.octets.proofs.Clauses.{Reflects, reflects-yes, reflects-three}
+use Rattle.octets.proofs.Clauses.{Reflects, reflects-yes, reflects-or, reflects-as, reflects-eqb, reflects-three}
 use Rattle.octets.proofs.Parts.{length-part}
 use Rattle.octets.proofs.Zeros.{allZero-zeros, allZero-is}
-use Rattle.cipher.specs.Key.{mcryptonClass}
-use Rattle.cipher.proofs.Promise.{mcrypton-cases}
+use Rattle.cipher.specs.Key.{mcryptonClass, presentClass, classKnown, keyBytes}
 use Rattle.layout.specs.Layout.{Edition, edition1, edition2, edition3, rule1, rule2, rule3, editionOf, editionByte, keyClass, slots, lastWrite, sheetSize, mark, field, writtenMark, blankSlot, fitSlot, fitIn, fit}
-use Rattle.layout.specs.Rules.{Words, IsBlank, IsWritten, Edition1, Edition2, Edition3, MeetsLayout, one, two, three}
+use Rattle.layout.specs.Rules.{Words, Classes, KeyFits, IsBlank, IsWritten, Edition1, Edition2, Edition3, MeetsLayout, one, two, three}
 use Rattle.layout.specs.Rules as Said
 use Rattle.layout.proofs.Header.{count-low, count-high, count-within, edition-cases, edition-one, edition-two, edition-three}
 use Rattle.layout.proofs.Fits.{Rules, fit-rules, rules-fit, mark-written, written-mark, length-mark, length-field}
@@ -26,6 +26,61 @@ use Rattle.layout.proofs.Fits.{Rules, fit-rules, rules-fit, mark-writte
 pub reflects-words : (t : ℕ) → Reflects (mcryptonClass t) (Words t)
 unfolding mcryptonClass
 reflects-words t = reflects-three t 4 6 8
+
+reflects-present : (t : ℕ) → Reflects (presentClass t) (OneOf (21 ∷ 24 ∷ []) t)
+unfolding presentClass OneOf
+reflects-present t = reflects-or (reflects-eqb t 21) (reflects-eqb t 24)
+
+pub all-classes : (t : ℕ) → Words t ⊎ OneOf (21 ∷ 24 ∷ []) t → Classes t
+unfolding OneOf
+all-classes t (inl (inl a)) = inl a
+all-classes t (inl (inr (inl a))) = inr (inl a)
+all-classes t (inl (inr (inr a))) = inr (inr (inl a))
+all-classes t (inr a) = inr (inr (inr a))
+
+by-cipher : (t : ℕ) → Classes t → Words t ⊎ OneOf (21 ∷ 24 ∷ []) t
+unfolding OneOf
+by-cipher t (inl a) = inl (inl a)
+by-cipher t (inr (inl a)) = inl (inr (inl a))
+by-cipher t (inr (inr (inl a))) = inl (inr (inr a))
+by-cipher t (inr (inr (inr a))) = inr a
+
+pub reflects-classes : (t : ℕ) → Reflects (classKnown t) (Classes t)
+unfolding classKnown
+reflects-classes t = reflects-as (all-classes t) (by-cipher t) (reflects-or (reflects-words t) (reflects-present t))
+
+-- key bytes that fit a class
+pub reflects-fits : (n t : ℕ) → Reflects (eqb n (keyBytes t)) (KeyFits n t)
+unfolding keyBytes
+reflects-fits n t = reflects-as fits size (reflects-eqb n (keyBytes t))
+  where
+    fits : n ≡ keyBytes t → KeyFits n t
+    fits e = (λ h. e ∙ ap keyBytes h, λ h. e ∙ ap keyBytes h, λ a b. e ∙ rw (ne-eqb t 21 a, ne-eqb t 24 b))
+
+    size : KeyFits n t → n ≡ keyBytes t
+    size f = go (eqb t 21) (eqb t 24) refl refl
+      where
+        go : (x y : Bool) → eqb t 21 ≡ x → eqb t 24 ≡ y → n ≡ (if x then 10 else if y then 16 else 2 * t)
+        go true y p q = f .0 (eqb-true t 21 p)
+        go false true p q = f .1 (eqb-true t 24 q)
+        go false false p q = f .2 (eqb-false t 21 p) (eqb-false t 24 q)
+
+-- byte 2 where byte 3 is v: under an unknown edition it is 4, 6 or 8
+abbrev pub ClassUnder : ℕ → ℕ → Type 0
+ClassUnder v t = Words t ⊎ ((v ≡ 3) × OneOf (21 ∷ 24 ∷ []) t)
+
+module _ (s : List ℕ) where
+  words-alone : (t : ℕ) → (editionByte s ≡ 3 → ⊥) → Reflects (mcryptonClass t) (ClassUnder (editionByte s) t)
+  words-alone t g = reflects-as inl (⊎-elim (λ w. w) (λ h. absurd (g (h .0)))) (reflects-words t)
+
+  with-present : (t : ℕ) → editionByte s ≡ 3 → Reflects (classKnown t) (ClassUnder (editionByte s) t)
+  unfolding classKnown
+  with-present t g = reflects-or (reflects-words t) (reflects-as (λ h. (g, h)) (λ h. h .1) (reflects-present t))
+
+  pub reflects-class : (t : ℕ) → Reflects (editionOf s .classes t) (ClassUnder (editionByte s) t)
+  reflects-class t =
+      edition-cases (λ d. Reflects (d .classes t) (ClassUnder (editionByte s) t)) s
+      (λ f g. words-alone t g) (λ g. words-alone t (λ h. omega (arith, g, h))) (with-present t)
 
 -- ---- a slot
 
@@ -138,13 +193,13 @@ rule-three : (s : List ℕ) → rule3 s ≡ true → Edition3 s
 unfolding rule3
 rule-three s h =
     record {
-      words = reflects-words (keyClass s) .holds (and-left (mcryptonClass (keyClass s)) (eqb (editionByte s) 3) h);
-      edition = eqb-true (editionByte s) 3 (and-right (mcryptonClass (keyClass s)) (eqb (editionByte s) 3) h);
+      class = reflects-classes (keyClass s) .holds (and-left (classKnown (keyClass s)) (eqb (editionByte s) 3) h);
+      edition = eqb-true (editionByte s) 3 (and-right (classKnown (keyClass s)) (eqb (editionByte s) 3) h);
     }
 
 three-rule : (s : List ℕ) → Edition3 s → rule3 s ≡ true
 unfolding rule3
-three-rule s m = and-both (mcryptonClass (keyClass s)) (eqb (editionByte s) 3) (reflects-yes (reflects-words (keyClass s)) (m .words)) (eq-eqb (editionByte s) 3 (m .edition))
+three-rule s m = and-both (classKnown (keyClass s)) (eqb (editionByte s) 3) (reflects-yes (reflects-classes (keyClass s)) (m .class)) (eq-eqb (editionByte s) 3 (m .edition))
 
 -- a sheet is fit exactly if it meets the layout
 fit-meets : (s : List ℕ) → fit s ≡ true → MeetsLayout s

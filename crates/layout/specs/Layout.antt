@@ -1,11 +1,11 @@
--- The layout of a sheet (document 01, "The sheet", and document 02, requests 3 and 7): a header, then n marks of 16 bytes, then n sealed fields of 192 bytes.
+-- The layout of a sheet (document 01, "The sheet", and document 02, requests 3, 7 and 10): a header, then n marks of 16 bytes, then n sealed fields of 192 bytes.
 use Prim.Native.Nat.{ℕ, _+_, _*_}
 use mathlib.Core.Bool.{Bool, true, false, _&&_, _||_}
 use mathlib.Core.List.{List, _++_}
 use lib.Dec.{eqb, leb}
 use lib.ListN.{length}
 use Rattle.octets.specs.Bytes.{if_then_else_, be, number, zeros, part, put, allZero, allBelow}
-use Rattle.cipher.specs.Key.{mcryptonClass}
+use Rattle.cipher.specs.Key.{mcryptonClass, classKnown}
 
 -- ---- the header's fields
 
@@ -37,6 +37,8 @@ storedMark s = part s 10 6
 pub record Edition : Type 0 where
   -- the size of its header
   pub header : ℕ
+  -- the classes that byte 2 may name
+  pub classes : ℕ → Bool
   -- its rule on the header's bytes other than n and w
   pub rule : List ℕ → Bool
   -- the last two bytes, as a number, of the block that is encrypted to make a start block
@@ -49,7 +51,7 @@ unfoldable pub rule1 : List ℕ → Bool
 rule1 s = mcryptonClass (keyClass s) && eqb (editionByte s) 1
 
 abbrev pub edition1 : Edition
-edition1 = record { header = 8; rule = rule1; tail = λ s. 0; keyed = false }
+edition1 = record { header = 8; classes = mcryptonClass; rule = rule1; tail = λ s. 0; keyed = false }
 
 -- t is 4, 6 or 8, the edition 2, and six zero bytes come after the serial
 unfoldable pub rule2 : List ℕ → Bool
@@ -57,15 +59,15 @@ rule2 s = mcryptonClass (keyClass s) && (eqb (editionByte s) 2 && allZero (part 
 
 -- the serial stands where edition 1 has two zero bytes in the block that is encrypted to make a start block
 abbrev pub edition2 : Edition
-edition2 = record { header = 16; rule = rule2; tail = serial; keyed = false }
+edition2 = record { header = 16; classes = mcryptonClass; rule = rule2; tail = serial; keyed = false }
 
--- t is 4, 6 or 8, and the edition 3: the key mark has no rule
+-- t is 4, 6 or 8, or 21 or 24 for PRESENT, and the edition 3: the key mark has no rule
 unfoldable pub rule3 : List ℕ → Bool
-rule3 s = mcryptonClass (keyClass s) && eqb (editionByte s) 3
+rule3 s = classKnown (keyClass s) && eqb (editionByte s) 3
 
 -- the six zero bytes of edition 2 are a key mark
 abbrev pub edition3 : Edition
-edition3 = record { header = 16; rule = rule3; tail = serial; keyed = true }
+edition3 = record { header = 16; classes = classKnown; rule = rule3; tail = serial; keyed = true }
 
 -- the edition of a sheet: 2 in byte 3 is edition 2, 3 is edition 3, and any other value is held to edition 1's rule, which 1 alone passes
 unfoldable pub editionOf : List ℕ → Edition

@@ -3,7 +3,7 @@ use Prim.Native.Nat.{ℕ, _+_, _*_, _/_, _%_, _≤_, _<_}
 use mathlib.Core.Path.{_≡_}
 use mathlib.Core.Bool.{true, false}
 use mathlib.Core.List.{List, [], _∷_}
-use mathlib.Core.Logic.{_⊎_}
+use mathlib.Core.Logic.{_⊎_, _↔_}
 use lib.ListN.{length, getD}
 use Rattle.octets.specs.Bytes.{zeros, part}
 use Rattle.octets.specs.Clauses.{OneOf}
@@ -52,12 +52,15 @@ pub record Places : Type 0 where
   pub fields-3 : (s : List ℕ) (i : ℕ) → field edition3 s i ≡ part s (16 + 16 * slots s + 192 * i) 192
   pub tail-3 : (s : List ℕ) → edition3 .tail s ≡ serial s
   pub keyed : (edition1 .keyed ≡ false) × (edition2 .keyed ≡ false) × (edition3 .keyed ≡ true)
+  -- byte 2: 4, 6 or 8, and in edition 3 also 21 and 24
+  pub classes : (s : List ℕ) (t : ℕ) → (editionOf s .classes t ≡ true) ↔ (OneOf (4 ∷ 6 ∷ 8 ∷ []) t ⊎ ((editionByte s ≡ 3) × OneOf (21 ∷ 24 ∷ []) t))
   -- byte 3 chooses the edition
   pub chosen-3 : (s : List ℕ) → editionByte s ≡ 3 → editionOf s ≡ edition3
   pub chosen-2 : (s : List ℕ) → editionByte s ≡ 2 → editionOf s ≡ edition2
   pub chosen-1 : (s : List ℕ) → (editionByte s ≡ 2 → ⊥) → (editionByte s ≡ 3 → ⊥) → editionOf s ≡ edition1
   -- a sheet meets the layout if no rule of document 01 or 02 is broken: nothing else is asked of it
-  pub meets : (s : List ℕ) → 8 ≤ length s → 1 ≤ slots s → slots s ≤ 256 → OneOf (4 ∷ 6 ∷ 8 ∷ []) (keyClass s) → OneOf (1 ∷ 2 ∷ 3 ∷ []) (editionByte s)
+  pub meets : (s : List ℕ) → 8 ≤ length s → 1 ≤ slots s → slots s ≤ 256 → OneOf (1 ∷ 2 ∷ 3 ∷ []) (editionByte s)
+      → (OneOf (4 ∷ 6 ∷ 8 ∷ []) (keyClass s) ⊎ ((editionByte s ≡ 3) × OneOf (21 ∷ 24 ∷ []) (keyClass s)))
       → (editionByte s ≡ 2 → part s 10 6 ≡ zeros 6) → length s ≡ editionOf s .header + 208 * slots s
       → ((i : ℕ) → i < slots s
       → ((mark (editionOf s) s i ≡ zeros 16) × (field (editionOf s) s i ≡ zeros 192))

@@ -1,4 +1,4 @@
--- The layout of a sheet rule by rule, in the words of document 01 and of document 02, requests 3 and 7: the plain meaning of `fit`.
+-- The layout of a sheet rule by rule, in the words of document 01 and of document 02, requests 3, 7 and 10: the plain meaning of `fit`.
 use Prim.Native.Nat.{ℕ, _+_, _*_, _≤_, _<_}
 use mathlib.Core.Path.{_≡_}
 use mathlib.Core.List.{List, [], _∷_}
@@ -8,9 +8,17 @@ use Rattle.octets.specs.Bytes.{zeros, part}
 use Rattle.octets.specs.Clauses.{OneOf}
 use Rattle.layout.specs.Layout.{Edition, edition1, edition2, edition3, slots, keyClass, editionByte, lastWrite, markNumber, markLength, mark, field}
 
--- t: 4, 6 or 8
+-- t in editions 1 and 2: 4, 6 or 8
 abbrev pub Words : ℕ → Type 0
 Words t = OneOf (4 ∷ 6 ∷ 8 ∷ []) t
+
+-- t in edition 3: also 21, PRESENT with 80 bits, and 24, PRESENT with 128 bits
+abbrev pub Classes : ℕ → Type 0
+Classes t = OneOf (4 ∷ 6 ∷ 8 ∷ 21 ∷ 24 ∷ []) t
+
+-- n key bytes fit t: 10 of them 21, 16 of them 24, and 2 × t of them any other
+abbrev pub KeyFits : ℕ → ℕ → Type 0
+KeyFits n t = (t ≡ 21 → n ≡ 10) × (t ≡ 24 → n ≡ 16) × ((t ≡ 21 → ⊥) → (t ≡ 24 → ⊥) → n ≡ 2 * t)
 
 module _ (e : Edition) where
   -- a blank slot has all 208 bytes zero
@@ -47,7 +55,7 @@ pub record Edition2 (s : List ℕ) : Type 0 where
 
 -- what edition 3 adds: the serial and the key mark have no rule
 pub record Edition3 (s : List ℕ) : Type 0 where
-  pub words : Words (keyClass s)
+  pub class : Classes (keyClass s)
   pub edition : editionByte s ≡ 3
 
 -- a sheet meets the layout of one of the three editions

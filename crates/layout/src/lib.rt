@@ -5,7 +5,7 @@ ghost use Prim.Native.Nat.{_≤_, _<_};
 ghost use lib.Dec.{eqb};
 ghost use lib.ListN.{length};
 ghost use Rattle.octets.specs.Bytes.{zeros, allBelow};
-ghost use Rattle.layout.specs.Layout.{editionOf, newEdition, slots, lastWrite, slotCount, sheetSize, markAt, fieldAt, blankSlot, fitSlot, fit, storeSlot, storeLast, blankSheet};
+ghost use Rattle.layout.specs.Layout.{editionOf, newEdition, slots, keyClass, lastWrite, slotCount, sheetSize, markAt, fieldAt, blankSlot, fitSlot, fit, storeSlot, storeLast, blankSheet};
 ghost use Rattle.layout.specs.Shape.{hasSerial, shapeOf, SlotIn, SheetOf};
 ghost use Rattle.layout.specs.Marks.{blankAfter, writtenAfter};
 
@@ -82,12 +82,24 @@ pub fn sheet_shape(s: &[u8]) -> Shape
     }
 }
 
+// Whether byte 2 names a class of the sheet's edition; an unknown edition has those of edition 1.
+pub fn class_rule(s: &[u8]) -> bool
+    requires { ⌜ 8 ≤ length (now s) ⌝ }
+    ensures { λ r. ⌜ r ≡ editionOf (now (s .entry)) .classes (keyClass (now (s .entry))) ⌝ }
+{
+    let t = octets::byte(s, 2);
+    if octets::byte(s, 3) == 3 {
+        return cipher::class_known(t);
+    }
+    cipher::mcrypton_class(t)
+}
+
 // The rule of the sheet's edition on its header.
 fn header_rule(s: &[u8]) -> bool
     requires { ⌜ editionOf (now s) .header ≤ length (now s) ⌝ }
     ensures { λ r. ⌜ r ≡ editionOf (now (s .entry)) .rule (now (s .entry)) ⌝ }
 {
-    if !cipher::mcrypton_class(octets::byte(s, 2)) {
+    if !class_rule(s) {
         return false;
     }
     let edition = octets::byte(s, 3);

@@ -5,16 +5,26 @@ use mathlib.Core.Bool.{Bool, true, false}
 use mathlib.Core.List.{List, _++_}
 use native.Mathlib.Omega.{arith}
 use borrow.Author.Tests.{le-leb}
-use lib.Dec.{leb}
+use lib.Dec.{eqb, leb}
 use lib.ListN.{length, length-append}
-use Rattle.octets.specs.Bytes.{Bytes, put}
+use Rattle.octets.specs.Bytes.{if_then_else_, Bytes, put}
 use Rattle.octets.proofs.Bool.{and-right}
 use Rattle.cipher.specs.Key.{keyBytes}
-use Rattle.layout.specs.Layout.{slots, lastWrite, editionOf, markNumber, markLength, mark, blankSlot, fit}
+use Rattle.layout.specs.Layout.{slots, keyClass, lastWrite, editionOf, markNumber, markLength, mark, blankSlot, fit}
 use Rattle.layout.proofs.Header.{last-below}
 use Rattle.layout.proofs.Fits.{Fits, fit-facts, fits-few, fits-class-small, not-blank-written, Written, mark-written}
 use Rattle.listing.specs.Listing.{line, headLine, blankLine, writtenLine, slotLine, slotLines, keyBits, listable, listing, listed}
 use Rattle.listing.proofs.Decimal.{length-decimal}
+
+-- the bytes of a key, of whatever class a byte names
+pub key-bytes-small : (t : ℕ) {r : ℕ} → r ≡ keyBytes t → t < 256 → r < 512
+unfolding keyBytes
+key-bytes-small t e h = rw e (go (eqb t 21) (eqb t 24))
+  where
+    go : (a b : Bool) → (if a then 10 else if b then 16 else 2 * t) < 512
+    go true b = omega arith
+    go false true = omega arith
+    go false false = omega arith
 
 abbrev Short : ℕ → Type 0
 Short n = n < 10000000000
@@ -46,14 +56,14 @@ module _ (s : List ℕ) (b : Bytes s) where
     length-slots (suc n) h = rw length-append (omega (arith, length-slots n (omega arith), length-slot n (omega arith) (blankSlot (editionOf s) s n) refl))
 
     length-lines : length (headLine (slots s) (keyBits s) (lastWrite s) ++ slotLines s (slots s)) ≤ 10553
-    unfolding keyBits keyBytes
+    unfolding keyBits
     length-lines =
         rw length-append
         (omega (
           arith,
           fits-few (editionOf s) s f,
           length-slots (slots s) (omega arith),
-          length-head (slots s) (keyBits s) (lastWrite s) (omega (arith, fits-few (editionOf s) s f)) (omega (arith, fits-class-small s f)) (omega (arith, last-below s b (f .long))),
+          length-head (slots s) (keyBits s) (lastWrite s) (omega (arith, fits-few (editionOf s) s f)) (omega (arith, key-bytes-small (keyClass s) refl (fits-class-small s f))) (omega (arith, last-below s b (f .long))),
         ))
 
   length-chosen : (t : Bool) → listable s ≡ t → length (listing s) ≤ 10553

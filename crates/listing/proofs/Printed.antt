@@ -15,7 +15,7 @@ use Rattle.cipher.specs.Key.{keyBytes}
 use Rattle.layout.specs.Layout.{editionOf, slots, keyClass, lastWrite, mark, markNumber, markLength, blankSlot}
 use Rattle.listing.specs.Printed.{valueFrom, value, Printed}
 use Rattle.listing.proofs.Decimal.{decimal-one, decimal-more, length-decimal-pos, length-decimal-more}
-use Rattle.listing.proofs.Example.{written-example, listing-example, listing-example-2, written-4, written-6, written-8, no-bytes}
+use Rattle.listing.proofs.Example.{written-example, listing-example, listing-example-2, written-4, written-6, written-8, written-21, written-24, no-bytes}
 
 -- ---- digits
 
@@ -108,12 +108,18 @@ put-nothing : (s out : List ℕ) → length out < length (listing s) → _≡_ {
 unfolding listed
 put-nothing s out h = rw (lt-leb (length (listing s)) (length out) h)
 
-sixteen : (t : ℕ) → 8 * (2 * t) ≡ 16 * t
-sixteen t = omega arith
+bits-of : (s : List ℕ) (t : ℕ) → keyClass s ≡ t → keyBits s ≡ 8 * keyBytes t
+unfolding keyBits
+bits-of s t h = rw h
 
-whole : (s : List ℕ) → listable s ≡ true → listing s ≡ headLine (slots s) (16 * keyClass s) (lastWrite s) ++ slotLines s (slots s)
-unfolding listing keyBits keyBytes
-whole s h = rw (h, sixteen (keyClass s))
+bits : (s : List ℕ) → (keyClass s ≡ 4 → keyBits s ≡ 64) × (keyClass s ≡ 6 → keyBits s ≡ 96) × (keyClass s ≡ 8 → keyBits s ≡ 128) × (keyClass s ≡ 21 → keyBits s ≡ 80)
+    × (keyClass s ≡ 24 → keyBits s ≡ 128)
+unfolding keyBytes
+bits s = (bits-of s 4, bits-of s 6, bits-of s 8, bits-of s 21, bits-of s 24)
+
+whole : (s : List ℕ) → listable s ≡ true → listing s ≡ headLine (slots s) (keyBits s) (lastWrite s) ++ slotLines s (slots s)
+unfolding listing
+whole s h = rw h
 
 first-line : (n bits w : ℕ) → headLine n bits w ≡ ascii "slots " ++ (decimal n ++ (ascii " key " ++ (decimal bits ++ (ascii " last " ++ (decimal w ++ ascii "\n")))))
 unfolding headLine line
@@ -142,6 +148,9 @@ printed =
       written-4 = written-4;
       written-6 = written-6;
       written-8 = written-8;
+      written-21 = written-21;
+      written-24 = written-24;
+      bits = bits;
       whole = whole;
       first-line = first-line;
       no-line = λ s. refl;

@@ -6,7 +6,7 @@ use mathlib.Core.List.{List, [], _∷_, _++_}
 use lib.ListN.{length, getD, drop, replicate}
 use Rattle.octets.specs.Bytes.{zeros}
 use Rattle.listing.specs.Ascii.{ascii}
-use Rattle.listing.specs.Listing.{decimal, headLine, writtenLine, slotLine, slotLines, listable, listing, listed}
+use Rattle.listing.specs.Listing.{decimal, headLine, writtenLine, slotLine, slotLines, keyBits, listable, listing, listed}
 use Rattle.layout.specs.Layout.{editionOf, slots, keyClass, lastWrite, mark, markNumber, markLength, blankSlot}
 
 -- the number that digits of ASCII stand for, the highest first, after digits that stand for v
@@ -29,6 +29,10 @@ written6 = 0 ∷ 1 ∷ 6 ∷ 2 ∷ 0 ∷ 1 ∷ 134 ∷ 160 ∷ 1 ∷ 2 ∷ (zero
 abbrev pub written8 : List ℕ
 written8 = 0 ∷ 2 ∷ 8 ∷ 3 ∷ 0 ∷ 0 ∷ 1 ∷ 2 ∷ 1 ∷ 2 ∷ (replicate 6 9 ++ (0 ∷ 0 ∷ 0 ∷ 10 ∷ zeros 412))
 
+-- one slot of edition 3, t = 21 or 24, which is PRESENT with 80 or 128 bits, w = 3: slot 0 has number 2 and length 5
+abbrev pub written-present : ℕ → List ℕ
+written-present t = 0 ∷ 1 ∷ t ∷ 3 ∷ 0 ∷ 0 ∷ 0 ∷ 3 ∷ 1 ∷ 2 ∷ (replicate 6 9 ++ (0 ∷ 0 ∷ 0 ∷ 2 ∷ 0 ∷ 5 ∷ 0 ∷ 0 ∷ replicate 200 7))
+
 pub record Printed : Type 0 where
   -- the decimal digits of every number are digits, and have that number as their value; none in front is 0
   pub digits-value : (n : ℕ) → value (decimal n) ≡ n
@@ -43,8 +47,13 @@ pub record Printed : Type 0 where
   pub written-4 : listing written4 ≡ ascii "slots 2 key 64 last 5\n0 blank\n1 written 3 17\n"
   pub written-6 : listing written6 ≡ ascii "slots 1 key 96 last 100000\n0 written 100000 192\n"
   pub written-8 : listing written8 ≡ ascii "slots 2 key 128 last 258\n0 written 10 0\n1 blank\n"
+  pub written-21 : listing (written-present 21) ≡ ascii "slots 1 key 80 last 3\n0 written 2 5\n"
+  pub written-24 : listing (written-present 24) ≡ ascii "slots 1 key 128 last 3\n0 written 2 5\n"
+  -- the bits of a key, by byte 2
+  pub bits : (s : List ℕ) → (keyClass s ≡ 4 → keyBits s ≡ 64) × (keyClass s ≡ 6 → keyBits s ≡ 96) × (keyClass s ≡ 8 → keyBits s ≡ 128) × (keyClass s ≡ 21 → keyBits s ≡ 80)
+      × (keyClass s ≡ 24 → keyBits s ≡ 128)
   -- every listing, line by line
-  pub whole : (s : List ℕ) → listable s ≡ true → listing s ≡ headLine (slots s) (16 * keyClass s) (lastWrite s) ++ slotLines s (slots s)
+  pub whole : (s : List ℕ) → listable s ≡ true → listing s ≡ headLine (slots s) (keyBits s) (lastWrite s) ++ slotLines s (slots s)
   pub first-line : (n bits w : ℕ) → headLine n bits w ≡ ascii "slots " ++ (decimal n ++ (ascii " key " ++ (decimal bits ++ (ascii " last " ++ (decimal w ++ ascii "\n")))))
   pub no-line : (s : List ℕ) → slotLines s 0 ≡ []
   pub next-line : (s : List ℕ) (i : ℕ) → slotLines s (suc i) ≡ slotLines s i ++ slotLine s i

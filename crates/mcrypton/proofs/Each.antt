@@ -1,44 +1,14 @@
--- A function on each entry of a list, one after the other: what remains to be done, and a round on each of many arrays.
-use mathlib.Core.Path.{_≡_, refl, sym, ap, ap₂, _∙_}
-use mathlib.Core.List.{List, [], _∷_, _++_, map, map-map, append-assoc, append-nil}
-use Prim.Native.Nat.{ℕ, suc, _+_, _-_, _≤_, _<_}
-use native.Mathlib.Numerals.{add-one}
-use native.Mathlib.Omega.{arith}
-use lib.ListN.{getD, length, set, take, drop, drop-of-length-le}
-use lib.Seq.{take-all, drop-cons, drop-set-lt, take-suc-set}
+-- A round on each of many arrays.
+use mathlib.Core.Path.{_≡_, refl, sym, ap, _∙_}
+use mathlib.Core.List.{List, map, map-map}
+use Prim.Native.Nat.{ℕ, _+_, _-_, _≤_, _<_}
+use Rattle.octets.proofs.Each.{map-same}
 use Rattle.rounds.specs.Array.{φ, σ, wordRound}
 use Rattle.rounds.specs.declared.Direction.{Direction}
 use Rattle.schedule.specs.Schedule.{times}
 use Rattle.schedule.specs.declared.Register.{Register}
 use Rattle.mcrypton.specs.Cipher.{steps}
 use Rattle.mcrypton.proofs.Remaining.{by-words, remaining, one-round, ended, begun}
-
-module _ (f : List ℕ → List ℕ) where
-  -- f is done on the first i entries, which are those of s; the others are still to be taken from b
-  pub each : ℕ → List (List ℕ) → List (List ℕ) → List (List ℕ)
-  each i s b = take i s ++ map f (drop i b)
-
-  pub each-none : (s b : List (List ℕ)) → each 0 s b ≡ map f b
-  unfolding each
-  each-none s b = refl
-
-  -- into another list
-  pub each-next : (i : ℕ) (s b : List (List ℕ)) {y : List ℕ} → i < length s → i < length b → y ≡ f (getD b i []) → each (i + 1) (set s i y) b ≡ each i s b
-  unfolding each
-  each-next i s b {y} h l e = rw (add-one, take-suc-set s i y, drop-cons b i [], e, append-assoc)
-
-  -- in place
-  pub each-here : (i : ℕ) (s : List (List ℕ)) {y : List ℕ} → i < length s → y ≡ f (getD s i []) → each (i + 1) (set s i y) (set s i y) ≡ each i s s
-  unfolding each
-  each-here i s {y} h e = rw (add-one, drop-set-lt (suc i) s i y (omega arith), ← add-one) (each-next i s s h h e)
-
-  pub each-all : (i : ℕ) (s b : List (List ℕ)) → length s ≤ i → length b ≤ i → each i s b ≡ s
-  unfolding each
-  each-all i s b h l = rw (take-all i s, drop-of-length-le b) (append-nil s)
-
-map-same : (f g : List ℕ → List ℕ) → ((x : List ℕ) → f x ≡ g x) → (l : List (List ℕ)) → map f l ≡ map g l
-map-same f g e [] = refl
-map-same f g e (x ∷ l) = ap₂ (λ (y : List ℕ) (m : List (List ℕ)). y ∷ m) (e x) (map-same f g e l)
 
 -- one walk of the register for many arrays, in either direction
 module _ (d : Direction) (p : ℕ) (step : Register → Register) (key : Register → List ℕ) where

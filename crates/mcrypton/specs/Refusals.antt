@@ -2,31 +2,12 @@
 use Prim.Native.Nat.{ℕ}
 use mathlib.Core.Path.{_≡_}
 use mathlib.Core.List.{List, [], _∷_}
-use lib.ListN.{length, replicate}
+use lib.ListN.{replicate}
 use Rattle.octets.specs.Bytes.{zeros}
-use Rattle.octets.specs.Outcome.{Outcome}
-use Rattle.octets.specs.Clauses.{Clause, _when_, Exactly, OneOf}
+use Rattle.octets.specs.BlockCalls.{Refusals}
 use Rattle.mcrypton.specs.Bytes.{encryptBytes, decryptBytes}
 use Rattle.mcrypton.specs.Calls.{encrypting, decrypting}
 use Rattle.mcrypton.specs.Vectors.{key4, key6, key8, block}
-
--- the key k, the block b and the output out of a call
-unfoldable pub blockClauses : List ℕ → List ℕ → List ℕ → List Clause
-blockClauses k b out =
-    (1 when (OneOf (8 ∷ 12 ∷ 16 ∷ []) (length k) → ⊥))
-    ∷ (3 when ((length b ≡ 8) × (length out ≡ 8) → ⊥))
-    ∷ []
-
--- length 0, and these bytes
-pub record Leaves (o : Outcome) (bytes : List ℕ) : Type 0 where
-  pub len : o .len ≡ 0
-  pub bytes-are : o .bytes ≡ bytes
-
--- of a call by the path number p, which is to make the block that made gives
-pub record Refusals (call : ℕ → List ℕ → List ℕ → List ℕ → Outcome) (made : ℕ → List ℕ → List ℕ → List ℕ) : Type 0 where
-  pub exactly : (p : ℕ) (k b out : List ℕ) → Exactly ((call p k b out) .number) (blockClauses k b out)
-  pub refused : (p : ℕ) (k b out : List ℕ) → ((call p k b out) .number ≡ 0 → ⊥) → Leaves (call p k b out) out
-  pub accepted : (p : ℕ) (k b out : List ℕ) → (call p k b out) .number ≡ 0 → Leaves (call p k b out) (made p k b)
 
 -- calls whole, in plain values: number, length and the output after it
 pub record BlockCalls : Type 0 where
@@ -46,6 +27,6 @@ pub record BlockCalls : Type 0 where
   pub decrypt-output : decrypting 0 key4 block (replicate 7 5) ≡ record { number = 3; len = 0; bytes = replicate 7 5 }
 
 pub record BlockRefusals : Type 0 where
-  pub encrypt : Refusals encrypting encryptBytes
-  pub decrypt : Refusals decrypting decryptBytes
+  pub encrypt : (p : ℕ) → Refusals (8 ∷ 12 ∷ 16 ∷ []) (encrypting p) (encryptBytes p)
+  pub decrypt : (p : ℕ) → Refusals (8 ∷ 12 ∷ 16 ∷ []) (decrypting p) (decryptBytes p)
   pub calls : BlockCalls

@@ -1,9 +1,10 @@
 // mCrypton (document 000): a block encrypted or decrypted with the key schedule on the fly, and the public calls on one block.
+use octets::BlockAnswer;
 use rounds::Direction;
 use schedule::Register;
 ghost use mathlib.Core.Path.{_≡_};
 ghost use Prim.Native.Nat.{_/_, _%_, _<_};
-ghost use lib.ListN.{getD, length};
+ghost use lib.ListN.{getD};
 ghost use mathlib.Core.List.{map};
 ghost use Rattle.rounds.specs.Array.{tables, σ, φ, wordRound};
 ghost use Rattle.rounds.specs.declared.Direction.the-variants.{Decrypt};
@@ -11,13 +12,8 @@ ghost use Rattle.schedule.specs.Schedule.{eightWords, start as startOf, roundKe
 ghost use Rattle.mcrypton.specs.Cipher.{pathRound};
 ghost use Rattle.mcrypton.specs.Registers.{KeyAsked, encryptFrom, decryptFrom};
 ghost use Rattle.mcrypton.specs.Bytes.{keyLength, wordsOf, bytesOf};
-ghost use Rattle.mcrypton.specs.Calls.{blockOutcome, accepting, encrypting, decrypting};
-
-pub enum BlockAnswer {
-    Accepted,
-    WrongKey,
-    WrongSpan,
-}
+ghost use Rattle.octets.specs.BlockCalls.{blockOutcome};
+ghost use Rattle.mcrypton.specs.Calls.{encrypting, decrypting};
 
 // Round r by the path that bit r - 1 of the path number p chooses: 1 is the word path.
 fn path_round(
@@ -101,10 +97,18 @@ fn key_of(s: &[[u16; 16]; 4], t: &[[u16; 16]; 4], v: Register, r: usize) -> [u16
     w.round_key(s)
 }
 
+// A block of bytes encrypted by words alone. Whoever wants one calls this, so that the compiler has the rounds once, and within this function.
+pub fn encrypt_bytes(u: Register, b: [u8; 8]) -> [u8; 8]
+    requires { ⌜ u .round ≡ 0 ⌝ }
+    ensures { λ z. ⌜ z ≡ bytesOf (encryptFrom 0 u (wordsOf b)) ⌝ }
+{
+    block_bytes(encrypt_words(u, block_words(b)))
+}
+
 // A block encrypted by words alone: any path number gives the same, and this spares the choice in each round.
 // The rounds are written out, each with its number as a literal, so that the compiler knows its constant. The register takes two
 // steps before two rounds, so that its word count is asked for once in two: together an eighth of the instructions.
-pub fn encrypt_words(u: Register, b: [u16; 4]) -> [u16; 4]
+fn encrypt_words(u: Register, b: [u16; 4]) -> [u16; 4]
     requires { ⌜ u .round ≡ 0 ⌝ }
     ensures { λ z. ⌜ z ≡ encryptFrom 0 u b ⌝ }
 {
@@ -235,14 +239,14 @@ pub fn decrypt_all(u: Register, a: &mut [[u16; 4]])
 }
 
 // The path number decided once: words alone where all twelve bits that count are 1.
-fn encrypt_chosen(p: u16, u: Register, b: [u16; 4]) -> [u16; 4]
+fn encrypt_chosen(p: u16, u: Register, b: [u8; 8]) -> [u8; 8]
     requires { ⌜ u .round ≡ 0 ⌝ }
-    ensures { λ z. ⌜ z ≡ encryptFrom p u b ⌝ }
+    ensures { λ z. ⌜ z ≡ bytesOf (encryptFrom p u (wordsOf b)) ⌝ }
 {
     if p % 4096 == 4095 {
-        return encrypt_words(u, b);
+        return encrypt_bytes(u, b);
     }
-    encrypt_by_path(p, u, b)
+    block_bytes(encrypt_by_path(p, u, block_words(b)))
 }
 
 fn decrypt_chosen(p: u16, u: Register, b: [u16; 4]) -> [u16; 4]
@@ -352,16 +356,6 @@ pub fn key_length(n: usize) -> bool
     n == 16
 }
 
-// The output of an accepted call.
-fn put_block(a: [u16; 4], out: &mut [u8]) -> BlockAnswer
-    requires { ⌜ length (now out) ≡ 8 ⌝ }
-    ensures { λ r. ⌜ blockOutcome r (now (out .exit)) ≡ accepting a ⌝ }
-{
-    let c = block_bytes(a);
-    octets::copy_part(out, 0, &c);
-    BlockAnswer::Accepted
-}
-
 // One block encrypted by the path number.
 pub fn encrypt_block(key: &[u8], block: &[u8], path: u16, out: &mut [u8]) -> BlockAnswer
     ensures { λ r. ⌜ blockOutcome r (now (out .exit)) ≡ encrypting path (now (key .entry)) (now (block .entry)) (now (out .entry)) ⌝ }
@@ -375,8 +369,8 @@ pub fn encrypt_block(key: &[u8], block: &[u8], path: u16, out: &mut [u8]) -> Blo
     if out.len() != 8 {
         return BlockAnswer::WrongSpan;
     }
-    let b = block_words(octets::block_at(block, 0));
-    put_block(encrypt_chosen(path, start(key), b), out)
+    let b = octets::block_at(block, 0);
+    octets::put_block(encrypt_chosen(path, start(key), b), out)
 }
 
 // One block decrypted by the path number.
@@ -393,5 +387,8 @@ pub fn decrypt_block(key: &[u8], block: &[u8], path: u16, out: &mut [u8]) -> Blo
         return BlockAnswer::WrongSpan;
     }
     let c = block_words(octets::block_at(block, 0));
-    put_block(decrypt_chosen(path, start(key).backward_start(), c), out)
+    octets::put_block(
+        block_bytes(decrypt_chosen(path, start(key).backward_start(), c)),
+        out,
+    )
 }

@@ -33,4 +33,4 @@ module _ (k m out : List ℕ) (r : Bool) (e : r ≡ keyLength (length k)) where
     accepted n l c out′ el ec sc eo =
         decided-rest _ _ _ _ _ (rw (← e, t))
         (decided-rest _ _ _ _ _ (rw (eq-eqb (length out) 8 n))
-        (ap (macOutcome Accepted) (eo ∙ put-all out c (sc ∙ sym n) ∙ ec ∙ rw el (mac-agree (encrypted (loaded (length k / 2) k)) (encryptBytes 0 k) (zeros 8) m (λ b. loaded-encrypts 0 k b) (blockCount m))) ∙ decided-none _ _))
+        (ap (macOutcome Accepted) (eo ∙ put-all out c (sc ∙ sym n) ∙ ec ∙ rw el (mac-agree (encrypted (loaded (length k / 2) k)) (encryptBytes 0 k) (zeros 8) m (λ b. loaded-encrypts 0 k b (sym e ∙ t)) (blockCount m))) ∙ decided-none _ _))

@@ -11,7 +11,7 @@ use lib.Seq.{take-all}
 use Rattle.octets.specs.Bytes.{Bytes, zeros, part}
 use Rattle.octets.proofs.EveryByte.{part-bytes}
 use Rattle.octets.proofs.Parts.{length-part, part-part, part-append-left, part-append-right}
-use Rattle.cipher.specs.Promise.{ByteBlock}
+use Rattle.octets.specs.Block.{ByteBlock}
 use Rattle.modes.specs.Xor.{xorBytes}
 use Rattle.modes.specs.CMAC.{K1, K2, blockCount, piece, lastBlock, messageBlock, chain, chainValue, cmac}
 use Rattle.modes.specs.Steps.{TwoParts, BlocksIn}

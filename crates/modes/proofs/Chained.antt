@@ -8,7 +8,7 @@ use lib.ListN.{length, take, drop, take-append-drop}
 use lib.Seq.{drop-drop, length-take-le}
 use Rattle.octets.specs.Bytes.{part}
 use Rattle.octets.proofs.Parts.{part-append-head, part-append-right}
-use Rattle.cipher.specs.Promise.{ByteBlock, Invertible}
+use Rattle.octets.specs.Block.{ByteBlock, Invertible}
 use Rattle.modes.specs.Xor.{xorBytes}
 use Rattle.modes.specs.CBC.{cbcEncrypt, cbcDecrypt}
 use Rattle.modes.specs.Laws.{ByteBlocks}

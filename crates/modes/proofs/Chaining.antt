@@ -9,7 +9,7 @@ use lib.Seq.{drop-drop, take-all, take-at, drop-at, length-take-le}
 use Rattle.octets.specs.Bytes.{none, part, put}
 use Rattle.octets.proofs.EveryByte.{append-bytes, take-bytes, drop-bytes}
 use Rattle.octets.proofs.Parts.{take-put, part-append-head, part-append-right}
-use Rattle.cipher.specs.Promise.{ByteBlock, Invertible}
+use Rattle.octets.specs.Block.{ByteBlock, Invertible}
 use Rattle.modes.specs.Xor.{xorBytes}
 use Rattle.modes.specs.CBC.{cbcEncrypt, cbcDecrypt}
 use Rattle.modes.specs.Laws.{ByteBlocks, CBC}

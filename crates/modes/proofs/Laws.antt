@@ -1,7 +1,7 @@
 -- The modes keep what they promise over any invertible cipher.
 use Prim.Native.Nat.{ℕ}
 use mathlib.Core.List.{List}
-use Rattle.cipher.specs.Promise.{Invertible}
+use Rattle.octets.specs.Block.{Invertible}
 use Rattle.modes.specs.Laws.{Modes}
 use Rattle.modes.proofs.Chaining.{cbc-laws}
 use Rattle.modes.proofs.Authentication.{cmac-laws}

@@ -13,7 +13,7 @@ use Rattle.rounds.specs.Array.{sboxes, sbox, γ, π, τ}
 use Rattle.schedule.specs.Schedule.{byCount, forwardWords, forward4, forward6, forward8, forward, start, eightWords, times, register, constants, registerT, lastWord, roundKey, encryptionKey}
 use Rattle.mcrypton.specs.Cipher.{byWords, afterBy, steps, encryptBlock}
 use Rattle.mcrypton.specs.Bytes.{keyLength, wordsOf, bytesOf, encryptBytes}
-use Rattle.mcrypton.specs.Refusals.{Leaves}
+use Rattle.octets.specs.BlockCalls.{Leaves}
 use Rattle.mcrypton.proofs.Refusals.{reflects-length}
 use Rattle.modes.specs.Xor.{xorBytes}
 use Rattle.modes.specs.CMAC.{shiftLeft, double, blockCount, lastBlock, messageBlock, chain, cmac}

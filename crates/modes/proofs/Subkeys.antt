@@ -14,7 +14,7 @@ use Rattle.octets.specs.Bytes.{Bytes, none, more, number, zeros, part, put, if_
 use Rattle.octets.proofs.EveryByte.{append-bytes, bytes-at}
 use Rattle.octets.proofs.Parts.{part-all, tab-all}
 use Rattle.octets.proofs.Zeros.{length-zeros, zeros-bytes, drop-zeros}
-use Rattle.cipher.specs.Promise.{ByteBlock}
+use Rattle.octets.specs.Block.{ByteBlock}
 use Rattle.modes.specs.Xor.{xorBytes}
 use Rattle.modes.specs.CMAC.{shiftLeft, R64, double, L, K1, K2, lastBlock}
 use Rattle.modes.proofs.Xor.{xor-block}

@@ -8,7 +8,7 @@ use lib.ListN.{length, getD}
 use Rattle.octets.specs.Bytes.{Bytes, none, more}
 use Rattle.octets.proofs.Parts.{tab-all}
 use Rattle.octets.proofs.Xor.{xor-cancel}
-use Rattle.cipher.specs.Promise.{ByteBlock}
+use Rattle.octets.specs.Block.{ByteBlock}
 use Rattle.modes.specs.Xor.{xorBytes}
 
 -- two blocks, written out

@@ -4,7 +4,7 @@ use mathlib.Core.Path.{_≡_}
 use mathlib.Core.List.{List, _++_}
 use lib.ListN.{length, drop}
 use Rattle.octets.specs.Bytes.{Bytes, zeros, part}
-use Rattle.cipher.specs.Promise.{ByteBlock}
+use Rattle.octets.specs.Block.{ByteBlock}
 use Rattle.modes.specs.CBC.{cbcEncrypt, cbcDecrypt}
 use Rattle.modes.specs.CMAC.{piece, blockCount, chain, chainValue, cmac}
 

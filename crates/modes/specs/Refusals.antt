@@ -5,7 +5,7 @@ use mathlib.Core.List.{List, [], _∷_}
 use lib.ListN.{length, replicate}
 use Rattle.octets.specs.Bytes.{zeros}
 use Rattle.octets.specs.Clauses.{Clause, _when_, Exactly, OneOf}
-use Rattle.mcrypton.specs.Refusals.{Leaves}
+use Rattle.octets.specs.BlockCalls.{Leaves}
 use Rattle.mcrypton.specs.Bytes.{encryptBytes}
 use Rattle.mcrypton.specs.Vectors.{key4, key6, key8}
 use Rattle.modes.specs.CMAC.{cmac}

@@ -9,3 +9,5 @@ pub mod Compare
 pub mod Outcome
 pub mod Clauses
 pub mod Plain
+pub mod Each
+pub mod BlockCalls

@@ -96,26 +96,30 @@ pub number-two : (s : List ℕ) (a : ℕ) → a + 2 ≤ length s → number (par
 unfolding number
 number-two s a h = rw (← tab-part 2 a s h, add-one) (omega arith)
 
-pub number-halves : (s : List ℕ) (a : ℕ) → a + 4 ≤ length s → number (part s a 4) ≡ number (part s a 2) * 65536 + number (part s (a + 2) 2)
-number-halves s a h =
-    ap number (part-add s a 2 2)
-    ∙ number-append (part s a 2) (part s (a + 2) 2)
-    ∙ ap (λ (n : ℕ). number (part s a 2) * 256 ^ n + number (part s (a + 2) 2)) (length-part s (a + 2) 2 (omega arith))
+-- a part in two
+pub number-parts : (s : List ℕ) (a m n : ℕ) → a + m + n ≤ length s → number (part s a (m + n)) ≡ number (part s a m) * 256 ^ n + number (part s (a + m) n)
+number-parts s a m n h =
+    ap number (part-add s a m n)
+    ∙ number-append (part s a m) (part s (a + m) n)
+    ∙ ap (λ (k : ℕ). number (part s a m) * 256 ^ k + number (part s (a + m) n)) (length-part s (a + m) n h)
 
 pub number-four : (s : List ℕ) (a : ℕ) → a + 4 ≤ length s
     → number (part s a 4) ≡ getD s a 0 * 16777216 + getD s (a + 1) 0 * 65536 + getD s (a + 2) 0 * 256 + getD s (a + 3) 0
 number-four s a h =
     let q : getD s (a + 2 + 1) 0 ≡ getD s (a + 3) 0 = ap (λ (k : ℕ). getD s k 0) {x = a + 2 + 1} {y = a + 3} (omega arith) in
-    omega (arith, number-halves s a h, number-two s a (omega arith), number-two s (a + 2) (omega arith))
+    omega (arith, number-parts s a 2 2 (omega arith), number-two s a (omega arith), number-two s (a + 2) (omega arith))
 
 -- the same of numbers read before
 pub number-two-read : (s : List ℕ) (a x y : ℕ) → a + 2 ≤ length s → x ≡ getD s a 0 → y ≡ getD s (a + 1) 0 → x * 256 + y ≡ number (part s a 2)
 number-two-read s a x y h p q = ap₂ (λ (u v : ℕ). u * 256 + v) p q ∙ sym (number-two s a h)
 
 pub number-four-read : (s : List ℕ) (a x y : ℕ) → a + 4 ≤ length s → x ≡ number (part s a 2) → y ≡ number (part s (a + 2) 2) → x * 65536 + y ≡ number (part s a 4)
-number-four-read s a x y h p q = ap₂ (λ (u v : ℕ). u * 65536 + v) p q ∙ sym (number-halves s a h)
+number-four-read s a x y h p q = ap₂ (λ (u v : ℕ). u * 65536 + v) p q ∙ sym (number-parts s a 2 2 (omega arith))
 
--- the low two and the low four bytes, written out
+pub number-eight-read : (s : List ℕ) (a x y : ℕ) → a + 8 ≤ length s → x ≡ number (part s a 4) → y ≡ number (part s (a + 4) 4) → x * 0x100000000 + y ≡ number (part s a 8)
+number-eight-read s a x y h p q = ap₂ (λ (u v : ℕ). u * 0x100000000 + v) p q ∙ sym (number-parts s a 4 4 (omega arith))
+
+-- the low two, four and eight bytes, written out
 pub be-two : (x : ℕ) → x / 256 % 256 ∷ x % 256 ∷ [] ≡ be 2 x
 unfolding be
 be-two x = sym (rw div-one)
@@ -123,6 +127,12 @@ be-two x = sym (rw div-one)
 pub be-four : (x : ℕ) → x / 16777216 % 256 ∷ x / 65536 % 256 ∷ x / 256 % 256 ∷ x % 256 ∷ [] ≡ be 4 x
 unfolding be
 be-four x = sym (rw div-one)
+
+pub be-eight : (x : ℕ)
+    → x / 0x100000000000000 % 256 ∷ x / 0x1000000000000 % 256 ∷ x / 0x10000000000 % 256 ∷ x / 0x100000000 % 256
+    ∷ x / 0x1000000 % 256 ∷ x / 0x10000 % 256 ∷ x / 0x100 % 256 ∷ x % 256 ∷ [] ≡ be 8 x
+unfolding be
+be-eight x = sym (rw div-one)
 
 pub be-four-two-two : (x y z : ℕ)
     → x / 16777216 % 256 ∷ x / 65536 % 256 ∷ x / 256 % 256 ∷ x % 256 ∷ y / 256 % 256 ∷ y % 256 ∷ z / 256 % 256 ∷ z % 256 ∷ []

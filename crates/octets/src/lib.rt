@@ -1,9 +1,18 @@
-// Bytes of slices: filled, copied, compared, and read and written as numbers with the high byte first.
+// Bytes of slices: filled, copied, compared, and read and written as numbers with the high byte first; and what a call on one block answers.
 ghost use mathlib.Core.Path.{_≡_};
 ghost use mathlib.Core.List.{_++_};
 ghost use Prim.Native.Nat.{_+_, _≤_, _<_};
 ghost use lib.ListN.{length, getD};
 ghost use Rattle.octets.specs.Bytes.{be, number, zeros, part, put, allZero, same};
+ghost use Rattle.octets.specs.BlockCalls.{blockOutcome};
+ghost use Rattle.octets.specs.declared.BlockAnswer.the-variants.{Accepted};
+
+// What a public call on one block answers, whatever the cipher.
+pub enum BlockAnswer {
+    Accepted,
+    WrongKey,
+    WrongSpan,
+}
 
 pub fn fill_zero(s: &mut [u8])
     ensures { λ _. ⌜ now (s .exit) ≡ zeros (length (now (s .entry))) ⌝ }
@@ -88,6 +97,14 @@ pub fn number4(s: &[u8], a: usize) -> usize
     number2(s, a) * 65536 + number2(s, a + 2)
 }
 
+// The number in the eight bytes of s from place a.
+pub fn number8(s: &[u8], a: usize) -> u64
+    requires { ⌜ a + 8 ≤ length (now s) ⌝ }
+    ensures { λ r. ⌜ r ≡ number (part (now (s .entry)) a 8) ⌝ }
+{
+    (number4(s, a) as u64) * 0x100000000 + (number4(s, a + 4) as u64)
+}
+
 // The low two bytes of x.
 pub fn bytes2(x: usize) -> [u8; 2]
     ensures { λ r. ⌜ r ≡ be 2 x ⌝ }
@@ -103,6 +120,22 @@ pub fn bytes4(x: usize) -> [u8; 4]
         (x / 16777216 % 256) as u8,
         (x / 65536 % 256) as u8,
         (x / 256 % 256) as u8,
+        (x % 256) as u8,
+    ]
+}
+
+// The eight bytes of x.
+pub fn bytes8(x: u64) -> [u8; 8]
+    ensures { λ r. ⌜ r ≡ be 8 x ⌝ }
+{
+    [
+        (x / 0x100000000000000 % 256) as u8,
+        (x / 0x1000000000000 % 256) as u8,
+        (x / 0x10000000000 % 256) as u8,
+        (x / 0x100000000 % 256) as u8,
+        (x / 0x1000000 % 256) as u8,
+        (x / 0x10000 % 256) as u8,
+        (x / 0x100 % 256) as u8,
         (x % 256) as u8,
     ]
 }
@@ -138,4 +171,13 @@ pub fn block_at(s: &[u8], a: usize) -> [u8; 8]
         s[a + 6],
         s[a + 7],
     ]
+}
+
+// The output of an accepted call on one block.
+pub fn put_block(b: [u8; 8], out: &mut [u8]) -> BlockAnswer
+    requires { ⌜ length (now out) ≡ 8 ⌝ }
+    ensures { λ r. ⌜ blockOutcome r (now (out .exit)) ≡ blockOutcome Accepted b ⌝ }
+{
+    copy_part(out, 0, &b);
+    BlockAnswer::Accepted
 }

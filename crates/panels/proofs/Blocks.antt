@@ -15,8 +15,9 @@ use Rattle.schedule.specs.declared.Register.{Register}
 use Rattle.mcrypton.specs.Cipher.{steps}
 use Rattle.mcrypton.specs.Bytes.{wordsOf, bytesOf}
 use Rattle.mcrypton.specs.Registers.{encryptFrom}
+use Rattle.mcrypton.proofs.WordsOf.{words-bytes}
 use Rattle.mcrypton.proofs.ByteBlocks.{length-bytes}
-use Rattle.cipher.proofs.Field.{map-at}
+use Rattle.octets.proofs.Each.{map-at}
 use Rattle.modes.specs.Xor.{xorBytes}
 use Rattle.panels.specs.CTR.{T, O, joined, ctr}
 use Rattle.panels.specs.Steps.{Counters, encryptedFrom, blockOf}
@@ -84,9 +85,13 @@ pub eight : (u : Register) (x : ℕ) → length (encryptedFrom u (T x)) ≡ 8
 unfolding encryptedFrom encryptFrom steps
 eight u x = length-bytes (block-φ _)
 
-pub block-sealed : (u : Register) (c : ℕ) (p t a o out : List ℕ) → length p ≤ 8 → t ≡ wordsOf (T c) → a ≡ encryptFrom 0 u t → o ≡ bytesOf a → out ≡ xorBytes p o → out ≡ ctr (encryptedFrom u) c p
+pub block-sealed : (u : Register) (c : ℕ) (p t a o out : List ℕ) → length p ≤ 8 → t ≡ wordsOf (T c) → a ≡ bytesOf t → o ≡ bytesOf (encryptFrom 0 u (wordsOf a)) → out ≡ xorBytes p o
+    → out ≡ ctr (encryptedFrom u) c p
 unfolding encryptedFrom
-block-sealed u c p t a o out l e f g h = h ∙ ap (xorBytes p) (g ∙ ap bytesOf (f ∙ ap (encryptFrom 0 u) e)) ∙ sym (ctr-block (encryptedFrom u) (eight u) c p l)
+block-sealed u c p t a o out l e f g h =
+    h
+    ∙ ap (xorBytes p) (g ∙ ap (λ (x : List ℕ). bytesOf (encryptFrom 0 u x)) (ap wordsOf f ∙ words-bytes t ∙ e))
+    ∙ sym (ctr-block (encryptedFrom u) (eight u) c p l)
 
 -- of the arrays a the first n have been encrypted
 encrypted-at : (u : Register) (c n : ℕ) (a rest : List (List ℕ)) (i : ℕ) → Counters c n a → n ≤ length a → i < n → blockOf (map (encryptFrom 0 u) (take n a) ++ rest) i ≡ O (encryptedFrom u) c i
@@ -95,7 +100,7 @@ encrypted-at u c n a rest i e l h =
     let lt : length (take n a) ≡ n = length-take-le n a l in
     ap bytesOf
     (List·getD-append (map (encryptFrom 0 u) (take n a)) rest [] i (omega (arith, length-map (take n a) (encryptFrom 0 u), lt))
-    ∙ map-at (encryptFrom 0 u) (take n a) i (omega (arith, lt))
+    ∙ map-at [] [] (encryptFrom 0 u) (take n a) i (omega (arith, lt))
     ∙ ap (encryptFrom 0 u) (getD-take n a i [] h ∙ e .at i h))
 
 pub part-sealed : (u : Register) (c n : ℕ) (p : List ℕ) (a x rest : List (List ℕ)) (s out : List ℕ) → n ≡ (length p + 7) / 8 → n ≤ length a → Counters c n a

@@ -20,13 +20,13 @@ use Rattle.rounds.specs.declared.Direction.the-variants.{Encrypt}
 use Rattle.schedule.specs.Schedule.{byCount, forwardWords, forward4, forward6, forward8, forward, start, eightWords, times, register, constants, registerT, lastWord, roundKey, encryptionKey}
 use Rattle.mcrypton.specs.Cipher.{byWords, afterBy, steps, encryptBlock}
 use Rattle.mcrypton.specs.Bytes.{keyLength, wordsOf, bytesOf, encryptBytes, decryptBytes}
-use Rattle.mcrypton.specs.Refusals.{Leaves}
+use Rattle.octets.specs.BlockCalls.{Leaves}
 use Rattle.mcrypton.specs.Vectors.{key4}
 use Rattle.std.proofs.num.wrapping_add_u64.Reads as wrapping-add
 use Rattle.mcrypton.proofs.Paths.{same-steps}
 use Rattle.mcrypton.proofs.ByteBlocks.{length-bytes, bytes-bytes, block-encrypted}
 use Rattle.mcrypton.proofs.Refusals.{reflects-length}
-use Rattle.cipher.specs.Promise.{ByteBlock}
+use Rattle.octets.specs.Block.{ByteBlock}
 use Rattle.cipher.proofs.Promise.{mcrypton-invertible}
 use Rattle.modes.specs.Xor.{xorBytes}
 use Rattle.panels.specs.CTR.{T, O, C, joined, ctr}

@@ -10,7 +10,7 @@ use Rattle.octets.specs.Bytes.{Bytes, zeros}
 use Rattle.octets.specs.Clauses.{Clause, _when_, Exactly, OneOf}
 use Rattle.schedule.specs.Schedule.{times}
 use Rattle.mcrypton.specs.Bytes.{encryptBytes}
-use Rattle.mcrypton.specs.Refusals.{Leaves}
+use Rattle.octets.specs.BlockCalls.{Leaves}
 use Rattle.mcrypton.specs.Vectors.{key4, key6, key8}
 use Rattle.panels.specs.Calls.{panelOutcome, panelling}
 use Rattle.panels.specs.declared.PanelAnswer.the-variants.{Accepted, WrongKey, WrongSpan, Overlong}

@@ -115,7 +115,7 @@ fn seal_block(u: Register, c: u64, p: &[u8], out: &mut [u8])
     requires { ⌜ (u .round ≡ 0) × (length (now p) ≤ 8) × (length (now out) ≡ length (now p)) ⌝ }
     ensures { λ _. ⌜ now (out .exit) ≡ ctr (encryptedFrom u) c (now (p .entry)) ⌝ }
 {
-    let o = mcrypton::block_bytes(mcrypton::encrypt_words(u, counter_words(c)));
+    let o = mcrypton::encrypt_bytes(u, mcrypton::block_bytes(counter_words(c)));
     add_bytes(p, &o, out);
 }
 

@@ -36,7 +36,7 @@ use Rattle.dated.specs.Calls.{DatedOutcome, datedNumber, datedLength, datedPoin
 use Rattle.exhibits.proofs.Exhibits.{exhibits}
 use Rattle.octets.proofs.Plain.{plain as plain-bytes}
 use Rattle.demands.specs.Ciphers.{byPaths}
-use Rattle.demands.proofs.Ciphers.{loaded-paths, paths-sound, classes-by-mcrypton}
+use Rattle.demands.proofs.Ciphers.{loaded-paths, paths-sound, classes-by-cipher}
 use Rattle.pointing.specs.Pointing.{AtFault, FirstLeft, CheckAgrees, AtChange, Points, PointsAtTerms, Never, Pointing}
 
 -- a table, row by row
@@ -266,7 +266,7 @@ pointing =
       write = write-points;
       clear = clear-points;
       blank = blank-points;
-      ciphers = classes-by-mcrypton;
+      ciphers = classes-by-cipher;
       read = λ p q k s i window a b y. read-points p q k s i a b y window;
       dated-terms = dated-terms;
       dated = dated-points;

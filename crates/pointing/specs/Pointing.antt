@@ -16,7 +16,7 @@ use Rattle.captions.specs.Captions.{Keys, Ciphers, checkOf, opened}
 use Rattle.captions.specs.Calls.{writing, clearing, reading, blanking}
 use Rattle.dated.specs.Calls.{dating}
 use Rattle.exhibits.specs.Exhibits.{Exhibits}
-use Rattle.demands.specs.Ciphers.{byPaths, ClassesByMcrypton}
+use Rattle.demands.specs.Ciphers.{byPaths, ClassesByCipher}
 
 -- ---- an unfit sheet
 
@@ -74,8 +74,8 @@ pub record Pointing : Type 0 where
   -- a clear shares the case of an unfit sheet; blanking points at nothing
   pub clear : (s : List ℕ) (i : ℕ) → Points s Never (clearing s i)
   pub blank : (k : Keys) (s : List ℕ) (n t v : ℕ) → (blanking k s n t v) .points ≡ point 0 0 0
-  -- the check and what is opened are mCrypton's, by any path numbers
-  pub ciphers : ClassesByMcrypton
+  -- the check and what is opened are those of the class's cipher, by any path numbers
+  pub ciphers : ClassesByCipher
   pub read : (p q : ℕ) (k : Keys) (s : List ℕ) (i : ℕ) (window : List ℕ) → Bytes (k .sealing) → Bytes (k .checking) → Bytes s
       → Points s (AtChange (byPaths (keyClass s) p q k) s i) (reading k s i window)
   -- a dated read, refused for its terms or not

@@ -12,12 +12,30 @@ fn answer(a: Answer) {
     show::text(b" ");
 }
 
+// How many bytes of the checking key the CMAC of a line takes: all, but on a PRESENT sheet eight, since the CMAC is mCrypton's.
+fn mac_bytes(checking: &[u8], sheet: &[u8]) -> usize
+    ensures { λ r. ⌜ r ≤ length (now (checking .entry)) ⌝ }
+{
+    let n = checking.len();
+    if sheet.len() < 3 {
+        return n;
+    }
+    if sheet[2] < 9 {
+        return n;
+    }
+    if n < 8 {
+        return n;
+    }
+    8
+}
+
 // The line of a call: its name, its answer, and the CMAC of the whole sheet under the checking key.
 fn line(name: &[u8], a: Answer, checking: &[u8], sheet: &[u8]) {
     show::text(name);
     answer(a);
     let mut check = [0u8; 8];
-    modes::cmac(checking, sheet, &mut check);
+    let n = mac_bytes(checking, sheet);
+    modes::cmac(&checking[..n], sheet, &mut check);
     show::hex(&check);
     show::text(b"\n");
 }
@@ -73,10 +91,9 @@ fn write_overlong(sealing: &[u8], checking: &[u8], sheet: &mut [u8]) {
 }
 
 // The serial is 23040 + t.
-fn blank(sealing: &[u8], checking: &[u8], sheet: &mut [u8])
-    requires { ⌜ length (now checking) ≤ 16 ⌝ }
+fn blank(t: usize, sealing: &[u8], checking: &[u8], sheet: &mut [u8])
+    requires { ⌜ t ≤ 24 ⌝ }
 {
-    let t = checking.len() / 2;
     let a = sheet::blank(sheet, 3, t, (23040 + t) as u16, sealing, checking);
     line(b"blank ", a, checking, sheet);
 }
@@ -145,11 +162,11 @@ fn lines(sealing: &[u8], near: &[u8], checking: &[u8], sheet: &mut [u8]) {
 }
 
 // A sheet of edition 3, made by blanking.
-fn new_sheet(sealing: &[u8], near: &[u8], checking: &[u8])
-    requires { ⌜ length (now checking) ≤ 16 ⌝ }
+fn new_sheet(t: usize, sealing: &[u8], near: &[u8], checking: &[u8])
+    requires { ⌜ t ≤ 24 ⌝ }
 {
     let mut sheet = [0u8; 640];
-    blank(sealing, checking, &mut sheet);
+    blank(t, sealing, checking, &mut sheet);
     lines(sealing, near, checking, &mut sheet);
 }
 
@@ -179,16 +196,22 @@ fn old_sheet(sealing: &[u8], near: &[u8], checking: &[u8])
     lines(sealing, near, checking, &mut sheet);
 }
 
-// The lines under keys of as many bytes as these have; near becomes the sealing key but for one bit.
-fn lines_of(sealing: &mut [u8], near: &mut [u8], checking: &mut [u8])
-    requires { ⌜ (length (now sealing) ≤ 16) × (0 < length (now near)) × (length (now checking) ≤ 16) ⌝ }
+// The lines of a new sheet with keys of class t; near becomes the sealing key but for one bit.
+fn new_lines(t: usize, sealing: &mut [u8], near: &mut [u8], checking: &mut [u8])
+    requires { ⌜ (t ≤ 24) × (0 < length (now near)) ⌝ }
 {
-    let t = sealing.len() / 2;
     show::pattern(sealing, 29, 71 * t + 13);
     show::pattern(near, 29, 71 * t + 13);
     near[0] = near[0] ^ 1;
     show::pattern(checking, 29, 71 * (t + 1) + 13);
-    new_sheet(sealing, near, checking);
+    new_sheet(t, sealing, near, checking);
+}
+
+// The lines of a sheet of each edition under keys of as many bytes as these have.
+fn lines_of(sealing: &mut [u8], near: &mut [u8], checking: &mut [u8])
+    requires { ⌜ (length (now sealing) ≤ 16) × (0 < length (now near)) × (length (now checking) ≤ 16) ⌝ }
+{
+    new_lines(sealing.len() / 2, sealing, near, checking);
     serial_sheet(sealing, near, checking);
     old_sheet(sealing, near, checking);
 }
@@ -206,4 +229,9 @@ fn main() {
     let mut near_long = [0u8; 16];
     let mut other_long = [0u8; 16];
     lines_of(&mut long, &mut near_long, &mut other_long);
+    let mut ten = [0u8; 10];
+    let mut near_ten = [0u8; 10];
+    let mut other_ten = [0u8; 10];
+    new_lines(21, &mut ten, &mut near_ten, &mut other_ten);
+    new_lines(24, &mut long, &mut near_long, &mut other_long);
 }

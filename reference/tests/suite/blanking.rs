@@ -1,5 +1,5 @@
 //! Blanking (document 01, "The sheet", the table and the edges; document 02,
-//! requests 3 and 7).
+//! requests 3, 7 and 10).
 
 use crate::edition::Edition;
 use crate::random::Random;
@@ -18,7 +18,7 @@ fn blank(sheet: &mut [u8], n: usize, t: usize, serial: u16, keys: &Keys) -> Answ
 #[test]
 fn blanking_stores_n_t_edition_3_the_serial_the_key_mark_and_zeros() {
     let mut random = Random::new(180);
-    for t in CLASSES {
+    for t in ALL_CLASSES {
         for n in 1usize..=256 {
             for serial in Edition::SERIALS {
                 let keys = unlike(&mut random, t);
@@ -26,7 +26,7 @@ fn blanking_stores_n_t_edition_3_the_serial_the_key_mark_and_zeros() {
                 assert_eq!(blank(&mut sheet, n, t, serial, &keys), accepted(0));
                 let [n1, n2] = [n / 256, n % 256].map(|byte| byte as u8);
                 let [s1, s2] = [serial / 256, serial % 256].map(|byte| byte as u8);
-                let mark = mark_of_block(&keys, [n1, n2, t as u8, 3, s1, s2, 0, 0]);
+                let mark = mark_of_block(t, &keys, [n1, n2, t as u8, 3, s1, s2, 0, 0]);
                 assert_eq!(sheet[..10], [n1, n2, t as u8, 3, 0, 0, 0, 0, s1, s2]);
                 assert_eq!(sheet[10..16], mark);
                 assert_eq!(sheet[16..], vec![0; 208 * n]);
@@ -51,15 +51,15 @@ fn every_serial_is_taken() {
 
 /// The number by the paper: 1, 2, 3, 5.
 fn number_of(length: usize, n: usize, t: usize, (sealing, checking): &Keys) -> u8 {
-    let is_key = |key: &Vec<u8>| [8, 12, 16].contains(&key.len());
+    let is_key = |key: &Vec<u8>| [8, 10, 12, 16].contains(&key.len());
     let right_keys = is_key(sealing) && is_key(checking) && sealing.len() == checking.len();
-    if !right_keys || ![4, 6, 8].contains(&t) {
+    if !right_keys || ![4, 6, 8, 21, 24].contains(&t) {
         1
     } else if sealing == checking {
         2
     } else if n == 0 || n > 256 || length != 16 + 208 * n {
         3
-    } else if sealing.len() != 2 * t {
+    } else if sealing.len() != key_bytes(t) {
         5
     } else {
         0
@@ -102,9 +102,9 @@ fn n_t_and_the_length_about_every_edge() {
         fitting(256) + 1,
         fitting(257),
     ];
-    let classes = CLASSES.map(|class| unlike(&mut random, class));
+    let classes = ALL_CLASSES.map(|class| unlike(&mut random, class));
     let mut met = [0; 6];
-    for t in (0..20).chain(FAR).chain([260, 262, 264]) {
+    for t in (0..30).chain(FAR).chain([260, 262, 264, 277, 280]) {
         for n in [0, 1, 2, 3, 255, 256, 257, 258].into_iter().chain(FAR) {
             for length in lengths {
                 for keys in &classes {
@@ -113,15 +113,17 @@ fn n_t_and_the_length_about_every_edge() {
             }
         }
     }
-    // Of t's 28 values 3 are right, of 13 × 14 sizes 3.
+    // Of t's 40 values 5 are right, of 13 × 14 sizes 3. Of the 5 × 5 pairs of t
+    // and the keys' class 7 fit, as 8 and 24 have the same key bytes.
     let sizes = 13 * 14;
-    assert_eq!(met, [9, 25 * sizes * 3, 0, 9 * (sizes - 3), 0, 18]);
+    let spans = 25 * (sizes - 3);
+    assert_eq!(met, [3 * 7, 35 * sizes * 5, 0, spans, 0, 3 * 18]);
 }
 
 #[test]
 fn keys_of_every_pair_of_lengths_unlike_and_equal() {
     let mut met = [0; 6];
-    for t in [0, 4, 5, 6, 8, 10, 12, usize::MAX] {
+    for t in [0, 4, 5, 6, 8, 10, 12, 20, 21, 24, usize::MAX] {
         for (n, length) in [(1, 224), (2, 432), (0, 16), (1, 216), (1, 223)] {
             for sealing in 0..=34 {
                 for checking in 0..=34 {
@@ -133,12 +135,12 @@ fn keys_of_every_pair_of_lengths_unlike_and_equal() {
             }
         }
     }
-    // Of t's 8 values 3 are right, of 5 sizes 2, of 2 × 35 × 35 pairs 6, half of
-    // them twins.
-    let wrong_keys = 3 * 5 * (2 * 35 * 35 - 6) + 5 * 5 * 2 * 35 * 35;
-    let twins = 3 * 5 * 3;
-    let spans = 3 * 3 * 3;
-    assert_eq!(met, [3 * 2, wrong_keys, twins, spans, 0, 3 * 2 * 2]);
+    // Of t's 11 values 5 are right, of 5 sizes 2, of 2 × 35 × 35 pairs 8, half of
+    // them twins. Each t is fit by one of the other 4.
+    let wrong_keys = 5 * 5 * (2 * 35 * 35 - 8) + 6 * 5 * 2 * 35 * 35;
+    let twins = 5 * 5 * 4;
+    let spans = 5 * 3 * 4;
+    assert_eq!(met, [5 * 2, wrong_keys, twins, spans, 0, 5 * 2 * 3]);
 }
 
 /// What blanking is given so that a set of refusals applies.
@@ -149,15 +151,15 @@ fn blanking_for(
     random: &mut Random,
 ) -> (usize, usize, Keys, usize) {
     let provoke = |number| set.contains(&number);
-    let other_class = [4, 6, 8][(t / 2 - 1 + way % 2) % 3];
+    let other_class = class_without(key_bytes(t), way);
     let mut keys = unlike(random, if provoke(5) { other_class } else { t });
     let mut t = t;
     if provoke(1) {
         match way % 6 {
-            0 => t = [0, 3, 5, 7, 9, 21, 24, usize::MAX][random.below(8)],
+            0 => t = [0, 3, 5, 7, 9, 20, 22, 23, 25, usize::MAX][random.below(10)],
             1 => keys.0.truncate(7),
             2 if !provoke(2) => keys.1.push(1),
-            3 => keys = (vec![1; 10], vec![1; 10]),
+            3 => keys = (vec![1; 11], vec![1; 11]),
             4 => keys = (random.bytes(17), random.bytes(17)),
             _ => keys = (Vec::new(), Vec::new()),
         }
@@ -184,7 +186,7 @@ fn blanking_for(
 fn blanking_gives_the_first_refusal_of_every_set() {
     let mut random = Random::new(183);
     let mut met = [0; 6];
-    for t in CLASSES {
+    for t in ALL_CLASSES {
         for set in 0..16 {
             let numbers = [1, 2, 3, 5].into_iter().enumerate();
             let in_set = numbers.filter(|(i, _)| set >> i & 1 == 1);
@@ -197,7 +199,7 @@ fn blanking_gives_the_first_refusal_of_every_set() {
             }
         }
     }
-    assert_eq!(met, [90, 8 * 90, 4 * 90, 2 * 90, 0, 90]);
+    assert_eq!(met, [150, 8 * 150, 4 * 150, 2 * 150, 0, 150]);
 }
 
 /// Blanking takes nothing from what the buffer held, be it a sheet of any
@@ -205,7 +207,7 @@ fn blanking_gives_the_first_refusal_of_every_set() {
 #[test]
 fn a_used_sheet_is_blanked_for_other_keys() {
     let mut random = Random::new(184);
-    for t in CLASSES {
+    for t in ALL_CLASSES {
         let [first, second] = [0, 1].map(|_| unlike(&mut random, t));
         let mut sheet = vec![0; 16 + 208 * 2];
         for (keys, others, serial) in [(&first, &second, 1), (&second, &first, 1)] {
@@ -223,7 +225,7 @@ fn a_used_sheet_is_blanked_for_other_keys() {
 #[test]
 fn one_slot_is_224_bytes_and_256_are_53264() {
     let mut random = Random::new(185);
-    for t in CLASSES {
+    for t in ALL_CLASSES {
         let keys = unlike(&mut random, t);
         for (n, length) in [(1, 224), (256, 53264)] {
             assert_eq!(blank_both(length, n, t, &keys), 0);

@@ -1,5 +1,5 @@
 //! Lists of writes and clears against the book, with reads at the end
-//! (document 01, "The book of demand 3"; document 02, requests 3, 7 and 9).
+//! (document 01, "The book of demand 3"; document 02, requests 3, 7, 9 and 10).
 
 use crate::edition::Edition;
 use crate::letters::{any_text, bad_text, good_text};
@@ -137,9 +137,9 @@ fn random_lists_with_every_serial() {
     let mut random = Random::new(94);
     for serial in Edition::SERIALS {
         for edition in [Edition::Two(serial), Edition::Three(serial)] {
-            for t in CLASSES {
+            for t in classes_of(edition) {
                 for _ in 0..5 {
-                    run(&mut random, (edition, t), (3, 0), 20, None);
+                    run(&mut random, (edition, *t), (3, 0), 20, None);
                 }
             }
         }
@@ -181,7 +181,7 @@ fn random_lists_with_strangers() {
     let mut random = Random::new(95);
     for edition in Edition::ALL {
         let mut met = [0; 16];
-        for t in CLASSES {
+        for &t in classes_of(edition) {
             for _ in 0..60 {
                 let n = 1 + random.below(6);
                 let calls = random.below(40);

@@ -1,5 +1,5 @@
 //! Broken rules of a sheet, found and made here and by no program that is tested
-//! (document 02, requests 5 and 7).
+//! (document 02, requests 5, 7 and 10).
 
 use crate::edition::Edition;
 use crate::support::UNKNOWN_EDITION;
@@ -60,7 +60,12 @@ fn broken_header(sheet: &[u8]) -> Vec<(usize, Numbers)> {
             broken.extend(set.map(|place| (place, (5, 0, place as u16))));
         }
     }
-    if ![4, 6, 8].contains(&sheet[2]) {
+    let is_class = match sheet[2] {
+        4 | 6 | 8 => true,
+        21 | 24 => sheet[3] == 3,
+        _ => false,
+    };
+    if !is_class {
         broken.push((2, (3, 0, 0)));
     }
     if n == 0 || n > 256 {

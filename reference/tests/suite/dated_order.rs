@@ -1,5 +1,5 @@
 //! The order of a dated read's tests, and what an undated read of the same call
-//! settles of it (document 02, requests 1, 5 and 7).
+//! settles of it (document 02, requests 1, 5, 7 and 10).
 
 use crate::edition::Edition;
 use crate::letters::good_text;
@@ -148,7 +148,8 @@ fn a_dated_read_gives_the_first_refusal_of_every_set_and_zeroes_its_window() {
     };
     for (set, edition) in Set::all().flat_map(with_edition) {
         for way in 0..WAYS {
-            let kind = (edition, CLASSES[(way + usize::from(set.0)) % 3]);
+            let classes = classes_of(edition);
+            let kind = (edition, classes[(way + usize::from(set.0)) % classes.len()]);
             let call = call_for(&set.undated(), kind, way, &mut random);
             let (terms, day) = set.terms_and_day(way, &mut random);
             let (answer, window) = dated(&call, &terms, day);
@@ -215,7 +216,7 @@ fn spoil(random: &mut Random, call: &mut Call, terms: &mut Vec<u8>, day: &mut us
         call.window.resize(random.below(300), 1);
     }
     if class {
-        let t = random.pick(&CLASSES);
+        let t = random.pick(&ALL_CLASSES);
         (call.sealing, call.checking) = unlike(random, t);
     }
     if near {
@@ -269,15 +270,18 @@ fn any_bytes_and_any_numbers_are_answered() {
     for edition in Edition::ALL {
         let one_slot = edition.blank_sheet(1, 4);
         for length in 0..1500 {
-            let lengths = [8, 12, 16, random.below(20)];
+            let lengths = [8, 10, 12, 16, random.below(20)];
             let key = random.pick(&lengths);
             let mut sheet = match random.below(3) {
                 0 => random.bytes(length),
                 1 => one_slot[..length.min(one_slot.len())].to_vec(),
-                _ => edition.blank_sheet(1 + length % 4, key / 2),
+                _ => {
+                    let t = random.pick(&[4, 6, 8, 21, 24, key / 2]);
+                    edition.blank_sheet(1 + length % 4, t)
+                }
             };
             let keys = (random.bytes(key), random.bytes(key));
-            if [8, 12, 16].contains(&key) && sheet.len() >= 16 && random.below(2) == 0 {
+            if [8, 10, 12, 16].contains(&key) && sheet.len() >= 16 && random.below(2) == 0 {
                 put_mark(&mut sheet, &keys);
             }
             let call = Call {

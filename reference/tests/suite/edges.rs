@@ -6,7 +6,7 @@ use crate::random::Random;
 use crate::support::*;
 
 #[test]
-fn key_bytes_7_9_13_17_refused_and_8_12_16_taken() {
+fn key_bytes_7_9_13_17_refused_and_8_12_16_taken_by_mcrypton() {
     for edition in Edition::ALL {
         for (length, number) in [(7, 1), (8, 0), (9, 1), (12, 0), (13, 1), (16, 0), (17, 1)] {
             let key = vec![3; length];

@@ -1,4 +1,4 @@
-//! The first fault of a sheet (document 02, requests 5 and 7).
+//! The first fault of a sheet (document 02, requests 5, 7 and 10).
 
 use crate::broken::*;
 use crate::edition::Edition;
@@ -38,6 +38,15 @@ pub fn mixed_sheet(random: &mut Random, kind: (Edition, usize)) -> ((Vec<u8>, Ve
     let (keys, mut sheet) = written_sheet(random, kind, [5, 17, 192]);
     assert_eq!(reference::clear(&mut sheet, 1), accepted(0));
     (keys, sheet)
+}
+
+/// What shall be answered on a sheet of class t if this rule alone is broken. Of
+/// PRESENT's classes byte 2 breaks its rule wherever byte 3 isn't 3.
+pub fn numbers_on(t: usize, rule: Break) -> Numbers {
+    match rule {
+        Break::Edition if PRESENT_CLASSES.contains(&t) => Break::KeyClass.numbers(),
+        _ => rule.numbers(),
+    }
 }
 
 #[test]
@@ -141,7 +150,8 @@ fn byte_2_with_every_value() {
         let (_, mut sheet) = mixed_sheet(&mut random, (edition, t));
         for value in 0..=255 {
             sheet[2] = value;
-            let rule = if [4, 6, 8].contains(&value) { 0 } else { 3 };
+            let fits = classes_of(edition).contains(&value.into());
+            let rule = if fits { 0 } else { 3 };
             assert_eq!(named(&sheet), (rule, 0, 0), "{value}");
         }
     }
@@ -150,7 +160,7 @@ fn byte_2_with_every_value() {
 /// As edition 2, byte 11 of an edition 1 sheet is the last of slot 0's write
 /// number, and a key mark is set; as edition 3 an edition 1 sheet is 8 bytes too
 /// short, and an edition 2 sheet has no fault; as edition 1 the others are 8
-/// bytes too long.
+/// bytes too long. PRESENT's classes are edition 3's alone.
 #[test]
 fn byte_3_with_every_value() {
     let mut random = Random::new(134);
@@ -160,6 +170,7 @@ fn byte_3_with_every_value() {
         for value in 0..=255 {
             sheet[3] = value;
             let expected = match (edition.number(), value) {
+                (_, 0..=2 | 4..) if PRESENT_CLASSES.contains(&t) => (3, 0, 0),
                 (1, 1) | (2, 2 | 3) | (3, 3) => NOWHERE,
                 (1, 2) => (5, 0, 11),
                 (3, 2) => (5, 0, set as u16),
@@ -443,11 +454,11 @@ fn each_fault_alone_and_of_each_pair_the_earlier_one() {
         for (i, first) in all.iter().enumerate() {
             for way in 0..BREAK_WAYS {
                 let alone = broken_sheet(edition, &sheet, &[*first], way);
-                assert_eq!(named(&alone), first.numbers(), "{first:?} {way}");
+                assert_eq!(named(&alone), numbers_on(t, *first), "{first:?} {way}");
                 for second in &all[i + 1..] {
                     for pair in [[*first, *second], [*second, *first]] {
                         let both = broken_sheet(edition, &sheet, &pair, way);
-                        assert_eq!(named(&both), first.numbers(), "{pair:?} {way}");
+                        assert_eq!(named(&both), numbers_on(t, *first), "{pair:?} {way}");
                     }
                 }
             }
@@ -458,8 +469,10 @@ fn each_fault_alone_and_of_each_pair_the_earlier_one() {
 #[test]
 fn of_any_set_of_faults_the_first() {
     let mut random = Random::new(143);
-    for edition in Edition::ALL {
-        let (_, sheet) = written_sheet(&mut random, (edition, 4), [7, 8, 9]);
+    let present = PRESENT_CLASSES.map(|t| (Edition::BLANKED, t));
+    let kinds = Edition::ALL.map(|edition| (edition, 4));
+    for (edition, t) in kinds.into_iter().chain(present) {
+        let (_, sheet) = written_sheet(&mut random, (edition, t), [7, 8, 9]);
         let all = Break::all(edition);
         let mut met = vec![0; all.len()];
         for _ in 0..20_000 {
@@ -470,7 +483,8 @@ fn of_any_set_of_faults_the_first() {
             let broken = broken_sheet(edition, &sheet, &breaks, random.below(BREAK_WAYS));
             match set.first() {
                 Some(first) => {
-                    assert_eq!(named(&broken), all[*first].numbers(), "{breaks:?}");
+                    let expected = numbers_on(t, all[*first]);
+                    assert_eq!(named(&broken), expected, "{breaks:?}");
                     met[*first] += 1;
                 }
                 None => assert_eq!(named(&broken), NOWHERE),
@@ -500,17 +514,24 @@ fn the_lowest_slot_of_256() {
 
 /// How often each rule is first when each bit of the mixed sheet is flipped,
 /// counted by hand. n becomes above 256 by byte 0 and another good one by byte
-/// 1; 4 and 6 become each other once; w becomes 1 or 2, below slot 2's number.
+/// 1; 4 and 6 become each other once, as do 8 and 24 in edition 3; w becomes 1 or 2, below slot 2's number.
 /// Of slot 0's number 1 only 3 is good, of slot 2's number 3 only 1 and 2, and
 /// of the blank slot's 1664 bits only those that make the number 1 or 2. Length
 /// 5 becomes above 192 by its high byte alone, length 192 by six more bits.
 /// Edition 1 becomes 3, which is longer; edition 2 becomes 3, which fits; and 3
-/// becomes 2, whose zero bytes are set, or 1, which is shorter.
+/// becomes 2, whose zero bytes are set, or 1, which is shorter. All eight bits of
+/// byte 3 take PRESENT's classes out of edition 3, so that byte 2 is wrong.
 fn counts_of_flips(edition: Edition, t: usize) -> [usize; 10] {
-    let t_flips = if t == 8 { 8 } else { 7 };
+    let t_flips = match (edition, t) {
+        (Edition::One | Edition::Two(_), 8) => 8,
+        (_, 21) => 8 + 8,
+        (_, 24) => 7 + 8,
+        _ => 7,
+    };
     let [no_edition, zeros, lengths] = match edition {
         Edition::One => [7, 0, 8 + 1],
         Edition::Two(_) => [7, 6 * 8, 8],
+        Edition::Three(_) if PRESENT_CLASSES.contains(&t) => [0, 0, 8],
         Edition::Three(_) => [6, 1, 8 + 1],
     };
     let numbers = 2 + 31 + 30 + 1662;
@@ -541,7 +562,7 @@ fn every_bit_of_a_sheet_flipped() {
 fn some_sheet(random: &mut Random) -> Vec<u8> {
     let edition = random.pick(&Edition::ALL);
     let n = random.pick(&[0, 1, 1, 2, 2, 2, 3, 3, 4]);
-    let t = random.pick(&[4, 4, 6, 6, 8, 8, 8, 5]);
+    let t = random.pick(&[4, 4, 6, 6, 8, 8, 8, 21, 24, 5]);
     let mut sheet = edition.blank_sheet(n, t);
     set_w(&mut sheet, random.below(5) as u32);
     for slot in 0..n {
@@ -591,6 +612,10 @@ fn bytes_of_any_length_have_a_first_fault_or_none() {
             &[1, 0, 4, 2],
             &[0, 1, 4, 3],
             &[0, 2, 8, 3],
+            &[0, 1, 21, 3],
+            &[0, 2, 24, 3],
+            &[0, 1, 21, 2],
+            &[0, 1, 24, 4],
         ] {
             let mut sheet = random.bytes(length);
             let shared = start.len().min(length);

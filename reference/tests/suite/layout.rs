@@ -1,5 +1,5 @@
 //! The layout test (document 01, "The sheet", and refusal 4; document 02,
-//! requests 3 and 7).
+//! requests 3, 7 and 10).
 
 use crate::edition::Edition;
 use crate::letters::good_text;
@@ -27,7 +27,7 @@ pub fn meets_the_layout(sheet: &[u8]) -> bool {
     if n == 0 || n > 256 || sheet.len() != edition.sheet_length(n) {
         return false;
     }
-    if ![4, 6, 8].contains(&t) || number == 2 && be(10, 6) != 0 {
+    if !classes_of(edition).contains(&(t as usize)) || number == 2 && be(10, 6) != 0 {
         return false;
     }
     for slot in 0..n {
@@ -71,8 +71,9 @@ fn blank_and_written_sheets_fit() {
 #[test]
 fn every_byte_with_every_value() {
     let mut random = Random::new(31);
-    for edition in Edition::ALL {
-        let sheet = mixed_sheet(&mut random, edition, 6);
+    let [one, two, three] = Edition::ALL;
+    for (edition, t) in [(one, 6), (two, 6), (three, 6), (three, 21), (three, 24)] {
+        let sheet = mixed_sheet(&mut random, edition, t);
         let mut unfit = 0;
         for place in 0..sheet.len() {
             for value in 0..=255 {
@@ -136,7 +137,7 @@ fn n_is_1_to_256() {
 }
 
 #[test]
-fn t_is_4_6_or_8_and_byte_3_the_edition_of_the_length() {
+fn t_is_the_edition_s_and_byte_3_the_edition_of_the_length() {
     let zero_mark = {
         let mut sheet = Edition::BLANKED.blank_sheet(1, 4);
         sheet[10..16].fill(0);
@@ -154,7 +155,8 @@ fn t_is_4_6_or_8_and_byte_3_the_edition_of_the_length() {
         for value in 0..=255 {
             let mut changed = sheet.clone();
             changed[2] = value;
-            assert_eq!(fit(&changed), [4, 6, 8].contains(&value));
+            let present = sheet[3] == 3 && [21, 24].contains(&value);
+            assert_eq!(fit(&changed), [4, 6, 8].contains(&value) || present);
             let mut changed = sheet.clone();
             changed[3] = value;
             assert_eq!(fit(&changed), editions.contains(&value));
@@ -251,7 +253,7 @@ fn random_bytes_are_judged_as_the_table_says() {
     for edition in Edition::ALL {
         for _ in 0..2000 {
             let n = random.below(4);
-            let t = random.pick(&[4, 6, 8, 5]);
+            let t = random.pick(&[4, 6, 8, 5, 21, 24]);
             let mut sheet = edition.blank_sheet(n, t);
             set_w(&mut sheet, random.below(4) as u32);
             for _ in 0..random.below(5) {
@@ -266,7 +268,7 @@ fn random_bytes_are_judged_as_the_table_says() {
 #[test]
 fn any_six_bytes_are_fit_for_a_key_mark() {
     let mut random = Random::new(34);
-    for t in CLASSES {
+    for t in ALL_CLASSES {
         let mut sheet = mixed_sheet(&mut random, Edition::BLANKED, t);
         for mark in (0..1000).map(|_| random.bytes(6)) {
             sheet[10..16].copy_from_slice(&mark);

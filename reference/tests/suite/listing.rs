@@ -1,4 +1,4 @@
-//! The listing text (document 01; document 02, requests 3 and 7).
+//! The listing text (document 01; document 02, requests 3, 7 and 10).
 
 use crate::edition::Edition;
 use crate::random::Random;
@@ -20,7 +20,12 @@ fn the_example() {
 fn written_and_blank_slots() {
     let mut random = Random::new(80);
     for (edition, t) in kinds() {
-        let bits = [64, 96, 128][t / 2 - 2];
+        let bits = match t {
+            4 => 64,
+            6 => 96,
+            21 => 80,
+            _ => 128,
+        };
         let keys = unlike(&mut random, t);
         let mut sheet = blank_for(edition, &keys, 3, t);
         write(&keys, &mut sheet, 0, b"");

@@ -1,4 +1,4 @@
-//! The key mark of edition 3 (document 02, request 7).
+//! The key mark of edition 3 (document 02, requests 7 and 10).
 
 use crate::edition::Edition;
 use crate::letters::{bad_text, good_text};
@@ -33,7 +33,7 @@ fn flipped(keys: &Keys, bit: usize) -> Keys {
 #[test]
 fn the_first_six_bytes_of_the_check_of_the_sealed_block() {
     let mut random = Random::new(190);
-    for t in CLASSES {
+    for t in ALL_CLASSES {
         for (n, [n1, n2]) in [(1, [0, 1]), (2, [0, 2]), (255, [0, 255]), (256, [1, 0])] {
             for (serial, [s1, s2]) in [
                 (0, [0, 0]),
@@ -44,8 +44,8 @@ fn the_first_six_bytes_of_the_check_of_the_sealed_block() {
                 (65535, [255, 255]),
             ] {
                 let keys = unlike(&mut random, t);
-                let sealed = encrypt(&keys.0, [n1, n2, t as u8, 3, s1, s2, 0, 0]);
-                let mac = cmac(&keys.1, &sealed);
+                let sealed = encrypt_in(t, &keys.0, [n1, n2, t as u8, 3, s1, s2, 0, 0]);
+                let mac = cmac_in(t, &keys.1, &sealed);
                 assert_eq!(mark(n, t, serial, &keys), mac[..6]);
             }
         }
@@ -60,15 +60,16 @@ fn a_pair_that_meets_1_2_or_5_has_no_mark_and_no_n_but_1_to_256_has() {
         assert_eq!(key_mark(n, 6, 7, &fine).is_some(), (1..=256).contains(&n));
     }
     for t in (0..600).chain(far) {
-        for length in [8, 12, 16] {
+        for length in [8, 10, 12, 16] {
             let keys = (vec![1; length], vec![2; length]);
-            assert_eq!(key_mark(1, t, 7, &keys).is_some(), t == length / 2 && t < 9);
+            let fits = [(4, 8), (6, 12), (8, 16), (21, 10), (24, 16)].contains(&(t, length));
+            assert_eq!(key_mark(1, t, 7, &keys).is_some(), fits);
         }
     }
-    for t in CLASSES {
+    for t in ALL_CLASSES {
         for sealing in 0..=34 {
             for checking in 0..=34 {
-                let own = sealing == 2 * t && checking == 2 * t;
+                let own = sealing == key_bytes(t) && checking == key_bytes(t);
                 let keys = (vec![1; sealing], vec![2; checking]);
                 assert_eq!(key_mark(3, t, 7, &keys).is_some(), own);
                 let twins = (vec![1; sealing], vec![1; checking]);
@@ -81,7 +82,7 @@ fn a_pair_that_meets_1_2_or_5_has_no_mark_and_no_n_but_1_to_256_has() {
 #[test]
 fn blanking_stores_the_mark() {
     let mut random = Random::new(191);
-    for t in CLASSES {
+    for t in ALL_CLASSES {
         for _ in 0..200 {
             let keys = unlike(&mut random, t);
             let n = 1 + random.below(9);
@@ -97,7 +98,7 @@ fn blanking_stores_the_mark() {
 #[test]
 fn each_n_has_another_mark() {
     let mut random = Random::new(192);
-    for t in CLASSES {
+    for t in ALL_CLASSES {
         let keys = unlike(&mut random, t);
         let marks: BTreeSet<[u8; 6]> = (1..=256).map(|n| mark(n, t, 9, &keys)).collect();
         assert_eq!(marks.len(), 256);
@@ -107,7 +108,7 @@ fn each_n_has_another_mark() {
 #[test]
 fn each_serial_has_another_mark() {
     let mut random = Random::new(193);
-    for t in CLASSES {
+    for t in ALL_CLASSES {
         let keys = unlike(&mut random, t);
         let marks = (0..=65535).map(|serial| mark(1, t, serial, &keys));
         let marks: BTreeSet<[u8; 6]> = marks.collect();
@@ -120,7 +121,7 @@ fn each_serial_has_another_mark() {
 #[test]
 fn every_byte_of_the_block_is_in_the_mark() {
     let mut random = Random::new(194);
-    for t in CLASSES {
+    for t in ALL_CLASSES {
         let keys = unlike(&mut random, t);
         let own = mark(3, t, 0x0102, &keys);
         let mut blocks = 0;
@@ -129,7 +130,8 @@ fn every_byte_of_the_block_is_in_the_mark() {
                 let mut block = [0, 3, t as u8, 3, 1, 2, 0, 0];
                 block[byte] = value;
                 let same = block == [0, 3, t as u8, 3, 1, 2, 0, 0];
-                assert_eq!(mark_of_block(&keys, block) == own, same, "{byte} {value}");
+                let other = mark_of_block(t, &keys, block);
+                assert_eq!(other == own, same, "{byte} {value}");
                 blocks += usize::from(same);
             }
         }
@@ -140,17 +142,17 @@ fn every_byte_of_the_block_is_in_the_mark() {
 #[test]
 fn each_bit_of_either_key_is_in_the_mark() {
     let mut random = Random::new(195);
-    for t in CLASSES {
+    for t in ALL_CLASSES {
         for _ in 0..10 {
             let keys = unlike(&mut random, t);
             let own = mark(2, t, 0xa53c, &keys);
             let mut marks = BTreeSet::from([own]);
-            for bit in 0..32 * t {
+            for bit in 0..16 * key_bytes(t) {
                 let near = flipped(&keys, bit);
                 assert_ne!(near.0, near.1);
                 marks.insert(mark(2, t, 0xa53c, &near));
             }
-            assert_eq!(marks.len(), 32 * t + 1);
+            assert_eq!(marks.len(), 16 * key_bytes(t) + 1);
         }
     }
 }
@@ -158,7 +160,7 @@ fn each_bit_of_either_key_is_in_the_mark() {
 #[test]
 fn exchanged_keys_have_another_mark() {
     let mut random = Random::new(196);
-    for t in CLASSES {
+    for t in ALL_CLASSES {
         for _ in 0..200 {
             let keys = unlike(&mut random, t);
             let exchanged = (keys.1.clone(), keys.0.clone());
@@ -172,7 +174,7 @@ fn exchanged_keys_have_another_mark() {
 #[test]
 fn w_is_not_in_the_mark() {
     let mut random = Random::new(197);
-    for t in CLASSES {
+    for t in ALL_CLASSES {
         let keys = unlike(&mut random, t);
         let own = mark(2, t, 0xa53c, &keys);
         let mut sheet = blank_for(Edition::BLANKED, &keys, 2, t);
@@ -193,7 +195,7 @@ fn w_is_not_in_the_mark() {
 #[test]
 fn the_mark_stays_through_any_calls() {
     let mut random = Random::new(198);
-    for t in CLASSES {
+    for t in ALL_CLASSES {
         let keys = unlike(&mut random, t);
         let mut sheet = blank_for(Edition::BLANKED, &keys, 4, t);
         let before = sheet[..16].to_vec();

@@ -1,9 +1,9 @@
 //! What the answers to a read, a write and a dated read carry (document 02,
-//! requests 5 and 7).
+//! requests 5, 7 and 10).
 
 use crate::broken::*;
 use crate::edition::Edition;
-use crate::faults::{mixed_sheet, written_sheet};
+use crate::faults::{mixed_sheet, numbers_on, written_sheet};
 use crate::flips::in_key_mark;
 use crate::random::Random;
 use crate::refusals::{call_for, first, read_sets, write_sets, WAYS};
@@ -66,13 +66,13 @@ fn every_call_points_to_the_fault_of_an_unfit_sheet() {
     let overlong = random.bytes(193);
     for (edition, t) in kinds() {
         let (keys, sheet) = written_sheet(&mut random, (edition, t), [5, 17, 192]);
-        let others = unlike(&mut random, if t == 4 { 8 } else { 4 });
+        let others = unlike(&mut random, class_without(key_bytes(t), 2));
         let strangers = unlike(&mut random, t);
         let terms = term_sheet(&[ALWAYS; 3]);
         for rule in Break::all(edition) {
             for way in 0..BREAK_WAYS {
                 let broken = broken_sheet(edition, &sheet, &[rule], way);
-                let expected = unfit(rule.numbers());
+                let expected = unfit(numbers_on(t, rule));
                 for slot in [0, 1, 2, 3, usize::MAX] {
                     for keys in [&keys, &others, &strangers] {
                         assert_eq!(pointed_read(keys, &broken, slot), expected);
@@ -102,7 +102,7 @@ fn of_a_pair_of_faults_every_call_names_the_earlier_one() {
             for second in &all[i + 1..] {
                 let way = random.below(BREAK_WAYS);
                 let broken = broken_sheet(edition, &sheet, &[*second, *first], way);
-                let expected = unfit(first.numbers());
+                let expected = unfit(numbers_on(t, *first));
                 assert_eq!(pointed_read(&keys, &broken, 2), expected);
                 assert_eq!(pointed_write(&keys, &broken, 2, b""), expected);
                 assert_eq!(pointed_dated(&keys, &broken, &terms, 2, 7), expected);
@@ -114,8 +114,9 @@ fn of_a_pair_of_faults_every_call_names_the_earlier_one() {
 /// The first opened byte of slot 0 that another serial makes other than zero.
 /// Its caption has 5 bytes and write number 1; the first opened block changes by
 /// what the start blocks differ in.
-fn place_after_serial(keys: &Keys, serials: [[u8; 2]; 2]) -> usize {
-    let [was, is] = serials.map(|[g, h]| encrypt(&keys.0, [0, 0, 0, 1, 0, 0, g, h]));
+fn place_after_serial(t: usize, keys: &Keys, serials: [[u8; 2]; 2]) -> usize {
+    let start = |[g, h]: [u8; 2]| encrypt_in(t, &keys.0, [0, 0, 0, 1, 0, 0, g, h]);
+    let [was, is] = serials.map(start);
     let place = (5..8).find(|place| was[*place] != is[*place]);
     place.unwrap()
 }
@@ -136,7 +137,7 @@ fn after_flip(
     let in_serial = edition != Edition::One && (8..10).contains(&byte);
     if broken != NOWHERE {
         unfit(broken)
-    } else if byte == 2 {
+    } else if key_bytes(usize::from(flipped[2])) != keys.0.len() {
         silent(5)
     } else if in_key_mark(flipped, byte) {
         silent(14)
@@ -144,7 +145,7 @@ fn after_flip(
         pointed(refused(10), (10, slot as u16, 0))
     } else if in_serial && slot == 0 {
         let serials = [sheet, flipped].map(|sheet| [sheet[8], sheet[9]]);
-        let place = place_after_serial(keys, serials);
+        let place = place_after_serial(sheet[2].into(), keys, serials);
         pointed(refused(10), (11, 0, place as u16))
     } else if slot == 1 {
         silent(9)
@@ -239,7 +240,7 @@ fn accepted_calls_and_refusals_other_than_4_and_10_carry_zeros() {
         let terms = term_sheet(&[ALWAYS, ALWAYS, NEVER]);
         let short = (keys.0.clone(), vec![1; 7]);
         let twins = (keys.0.clone(), keys.0.clone());
-        let others = unlike(&mut random, if t == 4 { 8 } else { 4 });
+        let others = unlike(&mut random, class_without(key_bytes(t), 2));
         let unfit_sheet = vec![0; 7];
         for sheet in [&sheet, &unfit_sheet] {
             for (keys, number) in [(&short, 1), (&twins, 2)] {
@@ -336,7 +337,7 @@ fn an_unfit_term_sheet_is_named_after_all_faults_of_the_caption_sheet() {
         for rule in Break::all(edition) {
             for way in 0..BREAK_WAYS {
                 let broken = broken_sheet(edition, &sheet, &[rule], way);
-                let expected = unfit(rule.numbers());
+                let expected = unfit(numbers_on(t, rule));
                 for terms in all_unfit.iter().chain([&good]) {
                     assert_eq!(pointed_dated(&keys, &broken, terms, 1, 7), expected);
                 }
@@ -376,7 +377,7 @@ fn an_unfit_term_sheet_is_named_before_all_that_follows() {
     for (edition, t) in kinds() {
         let (keys, mut sheet) = mixed_sheet(&mut random, (edition, t));
         sheet[edition.mark_place(2).start + 9] ^= 4;
-        let others = unlike(&mut random, if t == 8 { 6 } else { 8 });
+        let others = unlike(&mut random, class_without(key_bytes(t), 1));
         let good = term_sheet(&[NEVER, ALWAYS, ALWAYS]);
         let strangers = unlike(&mut random, t);
         let mut calls = vec![

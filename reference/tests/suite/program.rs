@@ -30,6 +30,7 @@ fn the_program_prints_each_kind_of_vectors() {
     use reference::vectors::*;
     for (kind, text) in [
         ("blocks", blocks()),
+        ("present", present()),
         ("keys", keys()),
         ("bench", bench()),
         ("cmac", cmacs()),
@@ -39,6 +40,8 @@ fn the_program_prints_each_kind_of_vectors() {
         ("marks", marks()),
         ("sheet", sheet()),
         ("faults", faults()),
+        ("dated", dated()),
+        ("classes", classes()),
         ("texts", texts()),
     ] {
         assert_eq!(printed(&["vectors", kind], b""), text.as_bytes());
@@ -210,6 +213,16 @@ fn the_program_lists_a_sheet() {
             assert_eq!(printed(&["list"], &sheet), reference::listing(&sheet));
         }
     }
+    for (t, text) in [
+        (21, &b"slots 1 key 80 last 0\n0 blank\n"[..]),
+        (24, b"slots 1 key 128 last 0\n0 blank\n"),
+    ] {
+        let sheet = Edition::BLANKED.blank_sheet(1, t);
+        assert_eq!(printed(&["list"], &sheet), text);
+        let sheet = Edition::Two(1).blank_sheet(1, t);
+        assert_eq!(printed(&["list"], &sheet), b"unfit\n");
+        assert_eq!(printed(&["fault"], &sheet), b"3 0 0\n");
+    }
 }
 
 #[test]
@@ -291,6 +304,11 @@ fn anything_else_gives_usage_and_status_64() {
         &["marks"],
         &["vectors", "mark"],
         &["vectors", "marks", "4"],
+        &["present"],
+        &["vectors", "present", "21"],
+        &["dated"],
+        &["classes"],
+        &["vectors", "class"],
         &["texts"],
         &["text", "file"],
         &["vectors", "text"],

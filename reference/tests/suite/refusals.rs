@@ -1,5 +1,5 @@
 //! Each refusal from both sides, and their order (document 01, the table;
-//! document 02, requests 3, 7 and 9).
+//! document 02, requests 3, 7, 9 and 10).
 
 use crate::edition::Edition;
 use crate::letters::{bad_text, good_text};
@@ -7,12 +7,18 @@ use crate::random::Random;
 use crate::support::*;
 
 /// Lengths about every edge.
-const LENGTHS: [usize; 19] = [
-    0, 1, 7, 8, 9, 11, 12, 13, 15, 16, 17, 18, 24, 32, 191, 192, 193, 200, 256,
+const LENGTHS: [usize; 20] = [
+    0, 1, 7, 8, 9, 10, 11, 12, 13, 15, 16, 17, 18, 24, 32, 191, 192, 193, 200, 256,
 ];
 
+/// Whether a key of mCrypton may have this length.
 fn is_key_length(length: usize) -> bool {
     [8, 12, 16].contains(&length)
+}
+
+/// Whether a key of a sheet may have this length.
+fn is_sheet_key_length(length: usize) -> bool {
+    [8, 10, 12, 16].contains(&length)
 }
 
 /// The tests of a write, in their order.
@@ -188,8 +194,8 @@ fn unmark(sheet: &mut [u8], (sealing, checking): &(Vec<u8>, Vec<u8>), way: usize
         4 => sheet[10..16].reverse(),
         // The serial, from which the mark is made.
         5 => sheet[9] ^= 1,
-        // Wrong keys have no mark.
-        _ if !is_key_length(sealing.len()) => {}
+        // Keys that aren't of the class have no mark.
+        _ if key_bytes(usize::from(sheet[2])) != sealing.len() => {}
         6 => put_mark(sheet, &(near(sealing), checking.clone())),
         7 => put_mark(sheet, &(sealing.clone(), near(checking))),
         _ => put_mark(sheet, &(checking.clone(), sealing.clone())),
@@ -241,22 +247,18 @@ pub fn call_for(
         sheet[places[way % 4]] ^= 0x40;
     }
     if provoke(5) {
-        let class = [4, 6, 8][(t / 2 - 1 + way % 2) % 3];
-        assert_ne!(class, t);
-        keys = unlike(random, class);
+        keys = unlike(random, class_without(key_bytes(t), way));
     }
     if provoke(1) {
         // Equal wrong lengths, as a pair of twins has.
-        let length = [0, 7, 9, 13, 15, 17][way % 6];
+        let length = [0, 7, 9, 11, 13, 15, 17][way % 7];
         keys.0.resize(length, 1);
         keys.1.resize(length, 2);
     }
     if provoke(2) {
         keys.1 = keys.0.clone();
     }
-    if is_key_length(keys.0.len()) {
-        put_mark(&mut sheet, &keys);
-    }
+    put_mark(&mut sheet, &keys);
     if provoke(14) {
         unmark(&mut sheet, &keys, way + set.len());
     }
@@ -341,16 +343,21 @@ fn one_wrong_key_or_two_lengths_that_differ_give_1() {
     for edition in Edition::ALL {
         for sealing in LENGTHS {
             for checking in LENGTHS {
-                let fine = is_key_length(sealing) && sealing == checking;
-                let t = sealing / 2;
-                let mut sheet = edition.blank_sheet(1, if fine { t } else { 4 });
+                let fine = is_sheet_key_length(sealing) && sealing == checking;
                 let keys = (vec![1; sealing], vec![2; checking]);
-                if fine {
-                    put_mark(&mut sheet, &keys);
+                for t in classes_of(edition) {
+                    let number = match fine {
+                        false => 1,
+                        true if key_bytes(*t) != sealing => 5,
+                        true => 0,
+                    };
+                    let mut sheet = edition.blank_sheet(1, *t);
+                    if fine {
+                        put_mark(&mut sheet, &keys);
+                    }
+                    assert_eq!(write(&keys, &mut sheet, 0, b""), refused(number));
+                    assert_eq!(read(&keys, &sheet, 0), (refused(number), [0; 192]));
                 }
-                let number = if fine { 0 } else { 1 };
-                assert_eq!(write(&keys, &mut sheet, 0, b""), refused(number));
-                assert_eq!(read(&keys, &sheet, 0), (refused(number), [0; 192]));
             }
         }
     }
@@ -370,12 +377,12 @@ fn empty_keys_are_wrong_before_they_are_twins() {
 fn keys_that_differ_in_one_bit_are_not_twins() {
     let mut random = Random::new(73);
     for (edition, t) in kinds() {
-        let sealing = random.bytes(2 * t);
+        let sealing = random.bytes(key_bytes(t));
         let mut sheet = edition.blank_sheet(1, t);
         let twins = (sealing.clone(), sealing.clone());
         assert_eq!(write(&twins, &mut sheet, 0, b"x"), refused(2));
         assert_eq!(read(&twins, &sheet, 0), (refused(2), [0; 192]));
-        for bit in 0..16 * t {
+        for bit in 0..8 * key_bytes(t) {
             let mut checking = sealing.clone();
             checking[bit / 8] ^= 1 << (bit % 8);
             let keys = (sealing.clone(), checking);
@@ -412,10 +419,11 @@ fn any_window_but_192_gives_3_and_becomes_zero() {
 fn keys_of_each_class_on_sheets_of_each_class() {
     let mut random = Random::new(75);
     for (edition, t) in kinds() {
-        for class in CLASSES {
+        for class in ALL_CLASSES {
             let keys = unlike(&mut random, class);
             let mut sheet = blank_for(edition, &keys, 1, t);
-            let number = if class == t { 0 } else { 5 };
+            let fits = key_bytes(class) == key_bytes(t);
+            let number = if fits { 0 } else { 5 };
             assert_eq!(write(&keys, &mut sheet, 0, b""), refused(number));
             assert_eq!(read(&keys, &sheet, 0).0, refused(number));
         }

@@ -28,15 +28,16 @@ fn start_of_write(
     let n = usize::from(sheet[0]) * 256 + usize::from(sheet[1]);
     assert_eq!(write(keys, sheet, slot, b"8 bytes."), accepted(0));
     let sealed = first_block(&sheet[edition.field_place(n, slot)]);
-    xor(decrypt(&keys.0, sealed), *b"8 bytes.")
+    let t = usize::from(sheet[2]);
+    xor(decrypt_in(t, &keys.0, sealed), *b"8 bytes.")
 }
 
 #[test]
 fn the_start_block_is_sealed_of_write_number_slot_and_serial() {
     let mut random = Random::new(120);
-    for t in CLASSES {
+    for t in ALL_CLASSES {
         let keys = unlike(&mut random, t);
-        for (edition, [g, h]) in [
+        let editions = [
             (Edition::One, [0, 0]),
             (Edition::Two(0), [0, 0]),
             (Edition::Two(1), [0, 1]),
@@ -50,12 +51,14 @@ fn the_start_block_is_sealed_of_write_number_slot_and_serial() {
             (Edition::Three(256), [1, 0]),
             (Edition::Three(0x1234), [0x12, 0x34]),
             (Edition::Three(65535), [255, 255]),
-        ] {
+        ];
+        let has_class = |edition: Edition| classes_of(edition).contains(&t);
+        for (edition, [g, h]) in editions.into_iter().filter(|kind| has_class(kind.0)) {
             let mut sheet = blank_for(edition, &keys, 256, t);
             set_w(&mut sheet, 0x0a0b0c0c);
             let start = start_of_write(edition, &keys, &mut sheet, 255);
             let plain = [0x0a, 0x0b, 0x0c, 0x0d, 0, 255, g, h];
-            assert_eq!(start, encrypt(&keys.0, plain));
+            assert_eq!(start, encrypt_in(t, &keys.0, plain));
         }
     }
 }
@@ -65,7 +68,7 @@ fn the_start_block_is_sealed_of_write_number_slot_and_serial() {
 #[test]
 fn a_sheet_blanked_with_another_serial_has_other_start_blocks() {
     let mut random = Random::new(121);
-    for t in CLASSES {
+    for t in ALL_CLASSES {
         let keys = unlike(&mut random, t);
         let mut sheet = vec![0; Edition::BLANKED.sheet_length(2)];
         let mut starts = BTreeSet::new();
@@ -129,7 +132,8 @@ fn with_one_serial_editions_2_and_3_differ_in_byte_3_and_the_key_mark_alone() {
 fn the_check_does_not_depend_on_the_serial() {
     let mut random = Random::new(123);
     let editions = [Edition::Two(7), Edition::Three(7)].into_iter();
-    for (edition, t) in editions.flat_map(|edition| CLASSES.map(|t| (edition, t))) {
+    let with_classes = |edition| classes_of(edition).iter().map(move |t| (edition, *t));
+    for (edition, t) in editions.flat_map(with_classes) {
         let keys = unlike(&mut random, t);
         let longest = good_text(&mut random, 192);
         let mut sheet = blank_for(edition, &keys, 2, t);
@@ -137,7 +141,7 @@ fn the_check_does_not_depend_on_the_serial() {
         assert_eq!(write(&keys, &mut sheet, 1, b"short"), accepted(0));
         let start = |serial: [u8; 2]| {
             let [high, low] = serial;
-            encrypt(&keys.0, [0, 0, 0, 1, 0, 0, high, low])
+            encrypt_in(t, &keys.0, [0, 0, 0, 1, 0, 0, high, low])
         };
         for serial in Edition::SERIALS.map(u16::to_be_bytes) {
             sheet[8..10].copy_from_slice(&serial);

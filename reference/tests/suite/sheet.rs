@@ -1,5 +1,5 @@
 //! What the calls store and show (document 01, "The sheet"; document 02,
-//! requests 3 and 7).
+//! requests 3, 7 and 10).
 
 use crate::edition::Edition;
 use crate::letters::good_text;
@@ -13,22 +13,22 @@ fn blocks(bytes: &[u8]) -> Vec<[u8; 8]> {
 
 /// Start block by the papers: write number, slot, serial (edition 1: two zero
 /// bytes), sealed.
-fn start(edition: Edition, key: &[u8], number: u32, slot: usize) -> [u8; 8] {
+fn start((edition, t): (Edition, usize), key: &[u8], number: u32, slot: usize) -> [u8; 8] {
     let mut plain = [0; 8];
     plain[..4].copy_from_slice(&number.to_be_bytes());
     plain[4..6].copy_from_slice(&(slot as u16).to_be_bytes());
     plain[6..].copy_from_slice(&edition.start_tail());
-    encrypt(key, plain)
+    encrypt_in(t, key, plain)
 }
 
 /// Check by the paper: CMAC of write number, slot, length, sealed field.
-fn check(key: &[u8], number: u32, slot: usize, length: u16, field: &[u8]) -> [u8; 8] {
+fn check(t: usize, key: &[u8], number: u32, slot: usize, length: u16, field: &[u8]) -> [u8; 8] {
     let mut message = number.to_be_bytes().to_vec();
     message.extend((slot as u16).to_be_bytes());
     message.extend(length.to_be_bytes());
     message.extend(field);
     assert_eq!(message.len(), 200);
-    cmac(key, &message)
+    cmac_in(t, key, &message)
 }
 
 /// Puts a slot together by hand: 192 plain bytes, sealed, with a true check.
@@ -42,9 +42,10 @@ fn put(
     plain: [u8; 192],
 ) {
     let n = usize::from(u16::from_be_bytes([sheet[0], sheet[1]]));
+    let t = usize::from(sheet[2]);
     let field = cbc_encrypt(
-        &|block| encrypt(&keys.0, block),
-        start(edition, &keys.0, number, slot),
+        &|block| encrypt_in(t, &keys.0, block),
+        start((edition, t), &keys.0, number, slot),
         &blocks(&plain),
     )
     .concat();
@@ -52,7 +53,7 @@ fn put(
     mark[0..4].copy_from_slice(&number.to_be_bytes());
     mark[4..6].copy_from_slice(&length.to_be_bytes());
     mark[6..8].copy_from_slice(&[0, 0]);
-    let mac = check(&keys.1, number, slot, length, &field);
+    let mac = check(t, &keys.1, number, slot, length, &field);
     mark[8..16].copy_from_slice(&mac);
     sheet[edition.field_place(n, slot)].copy_from_slice(&field);
 }

@@ -65,13 +65,13 @@ fn the_field_is_sealed_as_it_is() {
             let number = [1, 2, 3, 5];
             let [high, low] = length.to_be_bytes();
             let [g, h] = edition.start_tail();
-            let start = encrypt(&keys.0, [1, 2, 3, 5, 0, 2, g, h]);
+            let start = encrypt_in(t, &keys.0, [1, 2, 3, 5, 0, 2, g, h]);
             let field = &sheet[edition.field_place(3, 2)];
             let blocks = field.as_chunks::<8>().0;
-            let opened = cbc_decrypt(&|block| decrypt(&keys.0, block), start, blocks);
+            let opened = cbc_decrypt(&|block| decrypt_in(t, &keys.0, block), start, blocks);
             assert_eq!(opened.concat(), plain);
             let message = [&number[..], &[0, 2, high, low], field].concat();
-            let check = cmac(&keys.1, &message);
+            let check = cmac_in(t, &keys.1, &message);
             let mark = [&number[..], &[high, low, 0, 0], &check].concat();
             assert_eq!(sheet[edition.mark_place(2)], mark);
 

@@ -1,5 +1,5 @@
 //! Keys that aren't the sheet's: 14, and what comes before and after it (document
-//! 02, request 7).
+//! 02, requests 7 and 10).
 
 use crate::broken::NOWHERE;
 use crate::edition::Edition;
@@ -17,18 +17,19 @@ const SLOTS: [usize; 9] = [0, 1, 2, 3, 4, 255, 256, 65536, usize::MAX];
 /// Keys that a sheet of the edition with this number refuses, if these keys are
 /// its own, and the refusal.
 pub fn stranger(random: &mut Random, edition: u8, keys: &Keys) -> (Keys, u8) {
-    let t = keys.0.len() / 2;
+    let bytes = keys.0.len();
     let kinds = if edition == 3 { 4 } else { 3 };
     match random.below(kinds) {
         0 => (wrong_keys(random, keys), 1),
         1 => {
-            let class = random.pick(&CLASSES);
-            let key = [keys.0.clone(), keys.1.clone(), random.bytes(2 * class)];
+            let class = random.pick(&ALL_CLASSES);
+            let any = random.bytes(key_bytes(class));
+            let key = [keys.0.clone(), keys.1.clone(), any];
             let key = &key[random.below(3)];
             ((key.clone(), key.clone()), 2)
         }
         2 => {
-            let class = CLASSES[(t / 2 - 1 + random.below(2)) % 3];
+            let class = class_without(bytes, random.below(12));
             (unlike(random, class), 5)
         }
         _ => (other_keys(random, keys), 14),
@@ -44,23 +45,23 @@ fn wrong_keys(random: &mut Random, keys: &Keys) -> Keys {
         1 => wrong.1.truncate(random.below(8)),
         2 => wrong = (random.bytes(bytes + 1), random.bytes(bytes + 1)),
         3 => wrong.1 = random.bytes(if bytes == 8 { 16 } else { 8 }),
-        _ => wrong = (vec![3; 10], vec![3; 10]),
+        _ => wrong = (vec![3; 11], vec![3; 11]),
     }
     wrong
 }
 
-/// An unlike pair of the same class with another mark.
+/// An unlike pair with as many key bytes and another mark.
 fn other_keys(random: &mut Random, keys: &Keys) -> Keys {
-    let t = keys.0.len() / 2;
+    let bytes = keys.0.len();
     let mut others = keys.clone();
-    let (byte, bit) = (random.below(2 * t), random.below(8));
+    let (byte, bit) = (random.below(bytes), random.below(8));
     match random.below(6) {
         0 => others = (keys.1.clone(), keys.0.clone()),
         1 => others.0[byte] ^= 1 << bit,
         2 => others.1[byte] ^= 1 << bit,
-        3 => others.0 = random.bytes(2 * t),
-        4 => others.1 = random.bytes(2 * t),
-        _ => others = unlike(random, t),
+        3 => others.0 = random.bytes(bytes),
+        4 => others.1 = random.bytes(bytes),
+        _ => others = (random.bytes(bytes), random.bytes(bytes)),
     }
     assert!(others.0 != others.1 && others != *keys);
     others
@@ -94,7 +95,7 @@ fn assert_others(keys: &Keys, sheet: &[u8], slots: &[usize]) {
 #[test]
 fn every_bit_of_the_mark_flipped_gives_14_in_every_slot() {
     let mut random = Random::new(200);
-    for t in CLASSES {
+    for t in ALL_CLASSES {
         let (keys, sheet) = mixed_sheet(&mut random, (Edition::BLANKED, t));
         for bit in 8 * 10..8 * 16 {
             let mut flipped = sheet.clone();
@@ -109,7 +110,7 @@ fn every_bit_of_the_mark_flipped_gives_14_in_every_slot() {
 #[test]
 fn every_other_value_of_each_byte_of_the_mark_gives_14() {
     let mut random = Random::new(201);
-    for t in CLASSES {
+    for t in ALL_CLASSES {
         let (keys, sheet) = mixed_sheet(&mut random, (Edition::BLANKED, t));
         for place in 10..16 {
             for value in (0..=255).filter(|value| *value != sheet[place]) {
@@ -130,9 +131,9 @@ fn every_other_value_of_each_byte_of_the_mark_gives_14() {
 #[test]
 fn every_pair_but_the_sheet_s_own_is_refused() {
     let mut random = Random::new(202);
-    for t in CLASSES {
+    for t in ALL_CLASSES {
         let (keys, sheet) = mixed_sheet(&mut random, (Edition::BLANKED, t));
-        for bit in 0..16 * t {
+        for bit in 0..8 * key_bytes(t) {
             let mut near = [keys.clone(), keys.clone()];
             near[0].0[bit / 8] ^= 1 << (bit % 8);
             near[1].1[bit / 8] ^= 1 << (bit % 8);
@@ -151,7 +152,7 @@ fn every_pair_but_the_sheet_s_own_is_refused() {
 #[test]
 fn a_mark_from_another_sheet_is_not_this_one_s() {
     let mut random = Random::new(203);
-    for t in CLASSES {
+    for t in ALL_CLASSES {
         let (keys, sheet) = mixed_sheet(&mut random, (Edition::BLANKED, t));
         for (n, serial) in [(1, 0xa53c), (2, 0xa53c), (4, 0xa53c), (3, 0xa53d), (3, 0)] {
             let other = blank_for(Edition::Three(serial), &keys, n, t);
@@ -191,7 +192,7 @@ fn a_sheet_relabelled_from_edition_2_is_nobody_s() {
 #[test]
 fn a_sheet_with_a_wrong_mark_is_cleared_and_listed() {
     let mut random = Random::new(205);
-    for t in CLASSES {
+    for t in ALL_CLASSES {
         let kind = (Edition::BLANKED, t);
         let (keys, sheet) = written_sheet(&mut random, kind, [5, 17, 192]);
         for bit in 8 * 10..8 * 16 {
@@ -222,7 +223,7 @@ fn other_keys_are_14() {
 fn what_comes_before_14_and_after_it() {
     let mut random = Random::new(206);
     let edition = Edition::BLANKED;
-    for t in CLASSES {
+    for t in ALL_CLASSES {
         let (keys, mut sheet) = mixed_sheet(&mut random, (edition, t));
         sheet[edition.mark_place(2).start + 9] ^= 4;
         set_w(&mut sheet, u32::MAX);
@@ -250,7 +251,7 @@ fn what_comes_before_14_and_after_it() {
         let mut window = [1; 191];
         let answer = reference::read(&others.0, &others.1, &sheet, 0, &mut window);
         assert_eq!((answer.number, window), (3, [0; 191]));
-        let class = unlike(&mut random, if t == 4 { 6 } else { 4 });
+        let class = unlike(&mut random, class_without(key_bytes(t), t));
         let mut unfit = sheet.clone();
         unfit.push(0);
         for (keys, sheet, number) in [

@@ -3,16 +3,47 @@
 use crate::broken::Numbers;
 use crate::edition::Edition;
 use crate::random::Random;
+use reference::modes::cmac_with;
 use reference::{Answer, Pointed};
 use std::io::Write;
 
+/// The classes of mCrypton, which every edition has.
 pub const CLASSES: [usize; 3] = [4, 6, 8];
+/// The classes of PRESENT, which edition 3 alone has.
+pub const PRESENT_CLASSES: [usize; 2] = [21, 24];
+/// All classes, which are edition 3's.
+pub const ALL_CLASSES: [usize; 5] = [4, 6, 8, 21, 24];
 
-/// Every edition with every class.
+/// The classes of an edition.
+pub fn classes_of(edition: Edition) -> &'static [usize] {
+    match edition {
+        Edition::One | Edition::Two(_) => &CLASSES,
+        Edition::Three(_) => &ALL_CLASSES,
+    }
+}
+
+/// Every edition with every class it has.
 pub fn kinds() -> impl Iterator<Item = (Edition, usize)> {
-    Edition::ALL
-        .into_iter()
-        .flat_map(|edition| CLASSES.map(|t| (edition, t)))
+    let with_classes = |edition| classes_of(edition).iter().map(move |t| (edition, *t));
+    Edition::ALL.into_iter().flat_map(with_classes)
+}
+
+/// The key bytes of a class, or 0 if there is no such class.
+pub fn key_bytes(t: usize) -> usize {
+    match t {
+        4 => 8,
+        6 => 12,
+        8 | 24 => 16,
+        21 => 10,
+        _ => 0,
+    }
+}
+
+/// A class whose key bytes aren't these; `way` chooses.
+pub fn class_without(bytes: usize, way: usize) -> usize {
+    let mut classes = ALL_CLASSES.to_vec();
+    classes.retain(|t| key_bytes(*t) != bytes);
+    classes[way % classes.len()]
 }
 
 /// Prints a line also where the test harness keeps back what a passing test
@@ -89,10 +120,40 @@ pub fn cmac(key: &[u8], message: &[u8]) -> [u8; 8] {
     out
 }
 
+/// One block sealed with the cipher of a class.
+pub fn encrypt_in(t: usize, key: &[u8], block: [u8; 8]) -> [u8; 8] {
+    if CLASSES.contains(&t) {
+        return encrypt(key, block);
+    }
+    let mut out = [0; 8];
+    let answer = reference::present_encrypt_block(key, &block, &mut out);
+    assert_eq!(answer, accepted(0));
+    out
+}
+
+/// One block opened with the cipher of a class.
+pub fn decrypt_in(t: usize, key: &[u8], block: [u8; 8]) -> [u8; 8] {
+    if CLASSES.contains(&t) {
+        return decrypt(key, block);
+    }
+    let mut out = [0; 8];
+    let answer = reference::present_decrypt_block(key, &block, &mut out);
+    assert_eq!(answer, accepted(0));
+    out
+}
+
+/// CMAC with the cipher of a class.
+pub fn cmac_in(t: usize, key: &[u8], message: &[u8]) -> [u8; 8] {
+    if CLASSES.contains(&t) {
+        return cmac(key, message);
+    }
+    cmac_with(&|block| encrypt_in(t, key, block), message)
+}
+
 /// Two unlike keys of a class.
 pub fn unlike(random: &mut Random, t: usize) -> (Vec<u8>, Vec<u8>) {
-    let sealing = random.bytes(2 * t);
-    let mut checking = random.bytes(2 * t);
+    let sealing = random.bytes(key_bytes(t));
+    let mut checking = random.bytes(key_bytes(t));
     if checking == sealing {
         checking[0] ^= 1;
     }
@@ -100,20 +161,22 @@ pub fn unlike(random: &mut Random, t: usize) -> (Vec<u8>, Vec<u8>) {
 }
 
 /// The key mark by the paper: the block sealed, its CMAC, six bytes of that.
-pub fn mark_of_block(keys: &(Vec<u8>, Vec<u8>), block: [u8; 8]) -> [u8; 6] {
-    let mac = cmac(&keys.1, &encrypt(&keys.0, block));
+pub fn mark_of_block(t: usize, keys: &(Vec<u8>, Vec<u8>), block: [u8; 8]) -> [u8; 6] {
+    let mac = cmac_in(t, &keys.1, &encrypt_in(t, &keys.0, block));
     mac[..6].try_into().unwrap()
 }
 
-/// Makes a sheet the keys' own: puts in their key mark where it is of edition 3.
+/// Makes a sheet the keys' own: puts in their key mark where it is of edition 3
+/// and they are of its class.
 pub fn put_mark(sheet: &mut [u8], keys: &(Vec<u8>, Vec<u8>)) {
-    if sheet[3] == 3 {
+    let t = usize::from(sheet[2]);
+    if sheet[3] == 3 && key_bytes(t) == keys.0.len() {
         let block = [sheet[0], sheet[1], sheet[2], 3, sheet[8], sheet[9], 0, 0];
-        sheet[10..16].copy_from_slice(&mark_of_block(keys, block));
+        sheet[10..16].copy_from_slice(&mark_of_block(t, keys, block));
     }
 }
 
-/// A blank sheet that is the keys' own.
+/// A blank sheet that is the keys' own, if they are of its class.
 pub fn blank_for(edition: Edition, keys: &(Vec<u8>, Vec<u8>), n: usize, t: usize) -> Vec<u8> {
     let mut sheet = edition.blank_sheet(n, t);
     put_mark(&mut sheet, keys);

@@ -532,7 +532,7 @@ fn old_sheets_still_show() {
             assert!(reference::fit(&sheet));
             let always = term_sheet(&vec![ALWAYS; n]);
             let never = term_sheet(&vec![NEVER; n]);
-            let mut listed = format!("slots {n} key {} last {n}\n", 16 * t);
+            let mut listed = format!("slots {n} key {} last {n}\n", 8 * key_bytes(t));
             for (slot, caption) in captions.iter().enumerate() {
                 let expected = (accepted(caption.len() as u16), shown(caption));
                 assert_eq!(read(&keys, &sheet, slot), expected);

@@ -4,6 +4,7 @@ use crate::broken::{first_broken, NOWHERE};
 use crate::edition::Edition;
 use crate::panels::sealed_by_hand;
 use crate::support::*;
+use crate::term_sheet::{term_sheet, ALWAYS};
 use reference::cipher::phi_of_key;
 use reference::modes::cmac_steps;
 use reference::{vectors, Pointed};
@@ -13,10 +14,15 @@ fn lines(text: &str) -> Vec<Vec<&str>> {
     text.lines().map(|line| line.split(' ').collect()).collect()
 }
 
-/// The key of t words with number s.
+/// The key of a class with number s.
 fn numbered_key(t: usize, s: usize) -> Vec<u8> {
+    key_of_length(key_bytes(t), s)
+}
+
+/// The key of a length with number s.
+fn key_of_length(length: usize, s: usize) -> Vec<u8> {
     let byte = |i| (29 * i + 71 * s + 13) % 256;
-    (0..2 * t).map(|i| byte(i) as u8).collect()
+    (0..length).map(|i| byte(i) as u8).collect()
 }
 
 /// The text of a length with number s.
@@ -47,6 +53,57 @@ fn blocks() {
         assert_eq!(decrypt(&key, hex_block(encrypted)), hex_block(block));
         assert_eq!(encrypt(&key, hex_block(decrypted)), hex_block(block));
     }
+}
+
+/// The lines of `vectors present`: which call, key, block, length of the output.
+fn present_calls() -> Vec<(&'static str, Vec<u8>, Vec<u8>, usize)> {
+    let mut calls = Vec::new();
+    for length in 7..=17 {
+        let keys = if [10, 16].contains(&length) { 32 } else { 2 };
+        for s in 0..keys {
+            for block in [0, 7, 8, 9, 16].map(|length| numbered_text(s, length)) {
+                for out in [0, 7, 8, 9, 16] {
+                    for call in ["seal", "open"] {
+                        calls.push((call, key_of_length(length, s), block.clone(), out));
+                    }
+                }
+            }
+        }
+    }
+    calls
+}
+
+#[test]
+fn present() {
+    let text = vectors::present();
+    let lines = lines(&text);
+    let calls = present_calls();
+    assert_eq!((lines.len(), calls.len()), (4100, 4100));
+    let mut met = [0; 4];
+    let digits = |line: &str| if line == "-" { Vec::new() } else { hex(line) };
+    for (line, (call, key, block, out)) in lines.iter().zip(calls) {
+        assert_eq!(line.len(), 6);
+        assert_eq!((line[0], line[3]), (call, &out.to_string()[..]));
+        assert_eq!(
+            (digits(line[1]), digits(line[2])),
+            (key.clone(), block.clone())
+        );
+        let t = if key.len() == 10 { 21 } else { 24 };
+        let number = match (key.len(), block.len(), out) {
+            (10 | 16, 8, 8) => 0,
+            (10 | 16, _, _) => 3,
+            _ => 1,
+        };
+        let expected = match (number, call) {
+            (0, "seal") => encrypt_in(t, &key, hex_block(line[2])).to_vec(),
+            (0, _) => decrypt_in(t, &key, hex_block(line[2])).to_vec(),
+            _ => vec![0xff; out],
+        };
+        assert_eq!(line[4], number.to_string());
+        assert_eq!(digits(line[5]), expected);
+        met[number] += 1;
+    }
+    assert_eq!(met, [2 * 64, 9 * 2 * 50, 0, 2 * 64 * 24]);
 }
 
 #[test]
@@ -282,7 +339,7 @@ fn keys_of(t: usize) -> (Vec<u8>, Vec<u8>) {
 fn marks() {
     let text = vectors::marks();
     let mut lines = lines(&text).into_iter();
-    for t in CLASSES {
+    for t in ALL_CLASSES {
         let keys = keys_of(t);
         for n in [1, 2, 255, 256usize] {
             for serial in [0, 1, 256, serial_of(t), 65535] {
@@ -294,8 +351,8 @@ fn marks() {
                 let [n1, n2] = (n as u16).to_be_bytes();
                 let [s1, s2] = serial.to_be_bytes();
                 let block = [n1, n2, t as u8, 3, s1, s2, 0, 0];
-                assert_eq!(hex_block(line[5]), encrypt(&keys.0, block));
-                assert_eq!(hex_block(line[6]), cmac(&keys.1, &hex(line[5])));
+                assert_eq!(hex_block(line[5]), encrypt_in(t, &keys.0, block));
+                assert_eq!(hex_block(line[6]), cmac_in(t, &keys.1, &hex(line[5])));
                 assert_eq!(line[7], &line[6][..12]);
                 let mut sheet = vec![0; 16 + 208 * n];
                 let answer = reference::blank(&mut sheet, n, t, serial, &keys.0, &keys.1);
@@ -305,7 +362,7 @@ fn marks() {
         }
     }
     assert_eq!(lines.next(), None);
-    assert_eq!(text.lines().count(), 60);
+    assert_eq!(text.lines().count(), 100);
 }
 
 /// Lines of `vectors sheet` for one sheet: calls, reads, listing.
@@ -313,21 +370,26 @@ const SHEET_LINES: usize = 10 + 6 + 4;
 
 /// The sheets of `vectors sheet`: first word, edition, t.
 fn listed_sheets() -> impl Iterator<Item = (&'static str, Edition, usize)> {
-    CLASSES.into_iter().flat_map(|t| {
-        let [two, three] = [Edition::Two, Edition::Three].map(|edition| edition(serial_of(t)));
-        [
-            ("blank", three, t),
-            ("old", two, t),
-            ("old", Edition::One, t),
-        ]
-    })
+    let three = |t| ("blank", Edition::Three(serial_of(t)), t);
+    let mcrypton = CLASSES.into_iter().flat_map(move |t| {
+        let two = ("old", Edition::Two(serial_of(t)), t);
+        [three(t), two, ("old", Edition::One, t)]
+    });
+    mcrypton.chain(PRESENT_CLASSES.map(three))
+}
+
+/// The CMAC of a line, by the call that is mCrypton's alone: a PRESENT key gives
+/// its first eight bytes for it.
+fn line_mac(t: usize, key: &[u8], sheet: &[u8]) -> [u8; 8] {
+    let present = PRESENT_CLASSES.contains(&t);
+    cmac(if present { &key[..8] } else { key }, sheet)
 }
 
 #[test]
 fn sheet() {
     let text = vectors::sheet();
     let lines = lines(&text);
-    assert_eq!(lines.len(), 9 * SHEET_LINES);
+    assert_eq!(lines.len(), 11 * SHEET_LINES);
     for (lines, (origin, edition, t)) in lines.chunks(SHEET_LINES).zip(listed_sheets()) {
         let marked = edition.number() == 3;
         let starts = [
@@ -360,7 +422,7 @@ fn sheet() {
             assert_eq!(line[..4], start);
             assert_eq!(line[4].len(), 384);
         }
-        let bits = (16 * t).to_string();
+        let bits = (8 * key_bytes(t)).to_string();
         let last = if marked { "4" } else { "5" };
         assert_eq!(lines[16], ["slots", "3", "key", &bits, "last", last]);
         if marked {
@@ -393,10 +455,10 @@ fn sheet_with_twin_keys_and_near_twins() {
         let keys = keys_of(t);
         let printed_mac = |line: usize| hex_block(lines[line][3]);
         let blank = blank_for(edition, &keys, 3, t);
-        assert_eq!(printed_mac(0), cmac(&keys.1, &blank));
+        assert_eq!(printed_mac(0), line_mac(t, &keys.1, &blank));
         let mut sheet = cleared_sheet(&keys, blank);
         let before = sheet.clone();
-        assert_eq!(printed_mac(8), cmac(&keys.1, &before));
+        assert_eq!(printed_mac(8), line_mac(t, &keys.1, &before));
 
         let twins = (keys.0.clone(), keys.0.clone());
         assert_eq!(write(&twins, &mut sheet, 0, b"abc"), refused(2));
@@ -410,7 +472,7 @@ fn sheet_with_twin_keys_and_near_twins() {
         let answer = write(&near_twins, &mut sheet, 0, b"abc");
         assert_eq!(answer, refused(number));
         assert_eq!(sheet == before, marked);
-        assert_eq!(printed_mac(10), cmac(&keys.1, &sheet));
+        assert_eq!(printed_mac(10), line_mac(t, &keys.1, &sheet));
 
         if marked {
             assert_eq!(read(&near_twins, &sheet, 0), (refused(14), [0; 192]));
@@ -425,15 +487,15 @@ fn sheet_with_twin_keys_and_near_twins() {
     }
 }
 
-/// The sheets of `vectors faults`: edition, t.
+/// The sheets of `vectors faults` and `vectors dated`: edition, t.
 fn faulted_sheets() -> impl Iterator<Item = (Edition, usize)> {
     let one = CLASSES.map(|t| (Edition::One, t));
     let two = CLASSES.map(|t| (Edition::Two(serial_of(t)), t));
-    let three = CLASSES.map(|t| (Edition::Three(serial_of(t)), t));
+    let three = ALL_CLASSES.map(|t| (Edition::Three(serial_of(t)), t));
     one.into_iter().chain(two).chain(three)
 }
 
-/// A sheet of `vectors faults`.
+/// A sheet of `vectors faults` and `vectors dated`.
 fn faulted_sheet(keys: &(Vec<u8>, Vec<u8>), edition: Edition, t: usize) -> Vec<u8> {
     let mut sheet = blank_for(edition, keys, 3, t);
     for (slot, length) in [(0, 5), (1, 17), (2, 192)] {
@@ -490,4 +552,86 @@ fn faults() {
         }
     }
     assert!(rest.is_empty());
+}
+
+#[test]
+fn dated() {
+    let text = vectors::dated();
+    let terms = term_sheet(&[(100, 200), ALWAYS, (36000, 36524)]);
+    let mut rest = &lines(&text)[..];
+    let mut met = [0; 15];
+    for (edition, t) in faulted_sheets() {
+        let keys = keys_of(t);
+        let sheet = faulted_sheet(&keys, edition, t);
+        let lines;
+        (lines, rest) = rest.split_at(1 + 40);
+        let (number, t) = (edition.number().to_string(), t.to_string());
+        assert_eq!(lines[0].len(), 7);
+        assert_eq!(lines[0][..3], ["sheet", &number, &t]);
+        let bytes = [&keys.0, &keys.1, &sheet, &terms].map(Vec::clone);
+        assert_eq!([3, 4, 5, 6].map(|field| hex(lines[0][field])), bytes);
+        let days = [0, 99, 100, 150, 200, 201, 35999, 36000, 36524, 36525];
+        let calls = (0..4).flat_map(|slot| days.map(|day| (slot, day)));
+        for (line, (slot, day)) in lines[1..].iter().zip(calls) {
+            let (answer, window) = dated_read(&keys, &sheet, &terms, slot, day);
+            let reference::Answer { number, length } = answer;
+            assert_eq!(line.len(), 6);
+            let start = format!("{slot} {day} {number} 0 {length}");
+            assert_eq!(line[..5].join(" "), start);
+            assert_eq!(hex(line[5]), window);
+            met[usize::from(number)] += 1;
+        }
+    }
+    assert!(rest.is_empty());
+    // Slot 0 is shown on 3 days and slot 2 on 2; each slot meets one false day.
+    let [shown, hidden, blank] = [11 * (3 + 2), 11 * (6 + 7), 11 * 9];
+    let expected = [
+        (0, shown),
+        (6, 11 * 9),
+        (9, blank),
+        (11, 11 * 4),
+        (12, hidden),
+    ];
+    for (number, times) in expected {
+        assert_eq!(met[number], times, "{number}");
+    }
+}
+
+#[test]
+fn classes() {
+    let text = vectors::classes();
+    let mut lines = text.lines();
+    for byte_3 in [0, 1, 2, 3, 4, 255u8] {
+        for byte_2 in 0..=255u8 {
+            for length in 7..=17 {
+                let line = lines.next().unwrap();
+                let is_class = [4, 6, 8].contains(&byte_2);
+                let present = [21, 24].contains(&byte_2);
+                let rule = match (byte_3, is_class, present) {
+                    (1..=3, true, _) | (3, _, true) => 0,
+                    (_, true, _) => 4,
+                    _ => 3,
+                };
+                let fits = key_bytes(byte_2.into()) == length;
+                let is_key = [8, 10, 12, 16].contains(&length);
+                let (read, write) = match (is_key, rule, fits) {
+                    (false, _, _) => ("1 0", "1 0"),
+                    (_, 3, _) => ("4 3", "4 3"),
+                    (_, 4, _) => ("4 4", "4 4"),
+                    (_, _, false) => ("5 0", "5 0"),
+                    _ => ("9 0", "0 0"),
+                };
+                let clear = if rule == 0 { 0 } else { 4 };
+                let blank = match (is_class || present, is_key, fits) {
+                    (false, _, _) | (_, false, _) => 1,
+                    (_, _, false) => 5,
+                    _ => 0,
+                };
+                let calls = format!("{read} {read} {write} {clear} {blank}");
+                assert_eq!(line, format!("{byte_3} {byte_2} {length} {calls}"));
+            }
+        }
+    }
+    assert_eq!(lines.next(), None);
+    assert_eq!(text.lines().count(), 16896);
 }

@@ -10,12 +10,15 @@ use crate::sheets::Keys;
 use reference::{Answer, Pointed, OTHER_KEYS};
 use std::fmt::Debug;
 
-/// The two block calls.
+/// The two block calls of a cipher.
 #[derive(Clone, Copy, Debug)]
 pub enum Direction {
     Encrypt,
     Decrypt,
 }
+
+/// A block call that takes no path number, or has been given one.
+type BlockCall<'a> = &'a dyn Fn(&[u8], &[u8], &mut [u8]) -> Answer;
 
 /// Both programs side by side, and counts of what was compared.
 pub struct Both {
@@ -42,7 +45,7 @@ impl Both {
         }
     }
 
-    /// A block call by a path number: its answer, and the output after it.
+    /// mCrypton's block call by a path number: its answer, and the output after it.
     pub fn block(
         &mut self,
         direction: Direction,
@@ -51,26 +54,59 @@ impl Both {
         path: u16,
         out: &[u8],
     ) -> (Answer, Vec<u8>) {
+        let name = format!("{direction:?} by path {path:#06x}");
+        let calls: [BlockCall; 2] = match direction {
+            Direction::Encrypt => [
+                &|k, b, o| library::encrypt_block(k, b, path, o),
+                &reference::encrypt_block,
+            ],
+            Direction::Decrypt => [
+                &|k, b, o| library::decrypt_block(k, b, path, o),
+                &reference::decrypt_block,
+            ],
+        };
+        self.block_by(&name, calls, key, block, out)
+    }
+
+    /// PRESENT's block call.
+    pub fn present_block(
+        &mut self,
+        direction: Direction,
+        key: &[u8],
+        block: &[u8],
+        out: &[u8],
+    ) -> (Answer, Vec<u8>) {
+        let calls: [BlockCall; 2] = match direction {
+            Direction::Encrypt => [
+                &library::present_encrypt_block,
+                &reference::present_encrypt_block,
+            ],
+            Direction::Decrypt => [
+                &library::present_decrypt_block,
+                &reference::present_decrypt_block,
+            ],
+        };
+        self.block_by(&format!("PRESENT {direction:?}"), calls, key, block, out)
+    }
+
+    /// A block call of the library and one of the second program.
+    fn block_by(
+        &mut self,
+        name: &str,
+        [ours, theirs]: [BlockCall; 2],
+        key: &[u8],
+        block: &[u8],
+        out: &[u8],
+    ) -> (Answer, Vec<u8>) {
         let call = || {
             let out = out.len();
-            format!(
-                "{direction:?} key {key:02x?} block {block:02x?} path {path:#06x} output of {out}"
-            )
+            format!("{name} key {key:02x?} block {block:02x?} output of {out}")
         };
         let mut true_out = out.to_vec();
+        let theirs = theirs(key, block, &mut true_out);
         let (lent_key, lent_block, mut lent_out) =
             (self.lend(key), self.lend(block), self.lend(out));
-        let (k, b, o) = (lent_key.bytes(), lent_block.bytes(), lent_out.bytes_mut());
-        let (ours, theirs) = match direction {
-            Direction::Encrypt => (
-                library::encrypt_block(k, b, path, o),
-                reference::encrypt_block(key, block, &mut true_out),
-            ),
-            Direction::Decrypt => (
-                library::decrypt_block(k, b, path, o),
-                reference::decrypt_block(key, block, &mut true_out),
-            ),
-        };
+        let ours = ours(lent_key.bytes(), lent_block.bytes(), lent_out.bytes_mut());
         self.hold_answer(call, ours, theirs);
         self.hold_bytes(call, "key", &lent_key, key);
         self.hold_bytes(call, "block", &lent_block, block);

@@ -1,5 +1,6 @@
 //! The calls of the static library, over slices.
 
+use reference::modes::cmac_with;
 use reference::{Answer, DateAnswer, DayAnswer, Pointed};
 
 mod c {
@@ -48,6 +49,22 @@ mod c {
             block: *const u8,
             block_len: usize,
             path: u16,
+            out: *mut u8,
+            out_len: usize,
+        ) -> Answer;
+        pub fn captions_present_encrypt_block(
+            key: *const u8,
+            key_len: usize,
+            block: *const u8,
+            block_len: usize,
+            out: *mut u8,
+            out_len: usize,
+        ) -> Answer;
+        pub fn captions_present_decrypt_block(
+            key: *const u8,
+            key_len: usize,
+            block: *const u8,
+            block_len: usize,
             out: *mut u8,
             out_len: usize,
         ) -> Answer;
@@ -185,6 +202,34 @@ pub fn decrypt_block(key: &[u8], block: &[u8], path: u16, out: &mut [u8]) -> Ans
             block.as_ptr(),
             block.len(),
             path,
+            out.as_mut_ptr(),
+            out.len(),
+        )
+    })
+}
+
+#[inline]
+pub fn present_encrypt_block(key: &[u8], block: &[u8], out: &mut [u8]) -> Answer {
+    answer(unsafe {
+        c::captions_present_encrypt_block(
+            key.as_ptr(),
+            key.len(),
+            block.as_ptr(),
+            block.len(),
+            out.as_mut_ptr(),
+            out.len(),
+        )
+    })
+}
+
+#[inline]
+pub fn present_decrypt_block(key: &[u8], block: &[u8], out: &mut [u8]) -> Answer {
+    answer(unsafe {
+        c::captions_present_decrypt_block(
+            key.as_ptr(),
+            key.len(),
+            block.as_ptr(),
+            block.len(),
             out.as_mut_ptr(),
             out.len(),
         )
@@ -367,4 +412,39 @@ pub fn date_of_day(day: usize) -> DateAnswer {
 #[inline]
 pub fn list(sheet: &[u8], out: &mut [u8]) -> usize {
     unsafe { c::captions_list(sheet.as_ptr(), sheet.len(), out.as_mut_ptr(), out.len()) }
+}
+
+// ---- By the class of a sheet ----
+
+/// A block encrypted with the cipher of a class, mCrypton's by a path number.
+pub fn encrypted(t: usize, key: &[u8], block: [u8; 8], path: u16) -> [u8; 8] {
+    let mut out = [0; 8];
+    let answer = match t {
+        21 | 24 => present_encrypt_block(key, &block, &mut out),
+        _ => encrypt_block(key, &block, path, &mut out),
+    };
+    assert_eq!(answer.number, 0);
+    out
+}
+
+/// A block decrypted with the cipher of a class, mCrypton's by a path number.
+pub fn decrypted(t: usize, key: &[u8], block: [u8; 8], path: u16) -> [u8; 8] {
+    let mut out = [0; 8];
+    let answer = match t {
+        21 | 24 => present_decrypt_block(key, &block, &mut out),
+        _ => decrypt_block(key, &block, path, &mut out),
+    };
+    assert_eq!(answer.number, 0);
+    out
+}
+
+/// CMAC with the cipher of a class. For PRESENT's there is no call: it is the second
+/// program's, over the library's blocks.
+pub fn check(t: usize, key: &[u8], message: &[u8]) -> [u8; 8] {
+    if let 21 | 24 = t {
+        return cmac_with(&|block| encrypted(t, key, block, 0), message);
+    }
+    let mut out = [0; 8];
+    assert_eq!(cmac(key, message, &mut out).number, 0);
+    out
 }

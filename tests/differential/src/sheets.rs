@@ -4,14 +4,29 @@ use crate::edition::Edition;
 use crate::letters::{bad_text, good_text};
 use crate::random::Random;
 
-/// The values of t, the words of a key.
-pub const CLASSES: [usize; 3] = [4, 6, 8];
+/// The values of t that mean mCrypton, which are the words of a key.
+pub const MCRYPTON: [usize; 3] = [4, 6, 8];
 
-/// Every edition with every class.
+/// All values of t: those, and 21 and 24, which mean PRESENT in edition 3 alone.
+pub const CLASSES: [usize; 5] = [4, 6, 8, 21, 24];
+
+/// The values of t that an edition has.
+pub fn classes(edition: Edition) -> &'static [usize] {
+    match edition {
+        Edition::One | Edition::Two(_) => &MCRYPTON,
+        Edition::Three(_) => &CLASSES,
+    }
+}
+
+/// Every edition with every class that it has.
 pub fn kinds() -> impl Iterator<Item = (Edition, usize)> {
-    Edition::ALL
-        .into_iter()
-        .flat_map(|edition| CLASSES.map(|t| (edition, t)))
+    let editions = Edition::ALL.into_iter();
+    editions.flat_map(|edition| classes(edition).iter().map(move |t| (edition, *t)))
+}
+
+/// The bytes of a key of a class.
+pub fn key_bytes(t: usize) -> usize {
+    reference::key_bytes(t).expect("a class")
 }
 
 /// A value of byte 3 that is no edition's; the next is none's either.
@@ -45,14 +60,13 @@ pub struct Keys {
 }
 
 impl Keys {
-    /// Two unlike keys of t words.
+    /// Two unlike keys of a class.
     pub fn unlike(random: &mut Random, t: usize) -> Keys {
-        let sealing = random.bytes(2 * t);
-        let mut checking = random.bytes(2 * t);
-        if checking == sealing {
-            checking[0] ^= 1;
+        let mut keys = Keys::of_lengths(random, key_bytes(t), key_bytes(t));
+        if keys.checking == keys.sealing {
+            keys.checking[0] ^= 1;
         }
-        Keys { sealing, checking }
+        keys
     }
 
     /// Random keys of any lengths.
@@ -212,7 +226,11 @@ pub fn near_sheet(
         0 => set_slot_count(&mut sheet, n - 1),
         1 => set_slot_count(&mut sheet, n + 1),
         2 => set_slot_count(&mut sheet, random.number() as usize % 65536),
-        3 => sheet[2] = random.pick(&[0, 1, 2, 3, 5, 7, 9, 10, 12, 16, 24, 0x84, 255]),
+        3 => {
+            sheet[2] = random.pick(&[
+                0, 1, 2, 3, 5, 7, 9, 10, 12, 16, 20, 21, 22, 23, 24, 25, 0x84, 255,
+            ])
+        }
         4 => sheet[3] = random.pick(&[0, UNKNOWN_EDITION, UNKNOWN_EDITION + 1, 0x81, 255]),
         5 => set_last_number(&mut sheet, random.pick(&[0, 1, 2, 0xff, 0x100, 0x10000])),
         6 => sheet[mark + 4..mark + 6]

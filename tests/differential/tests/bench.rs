@@ -5,7 +5,7 @@ use differential::both::{Both, Direction};
 use differential::lent::Place;
 use differential::random::{seed, Random};
 use differential::report;
-use differential::sheets::CLASSES;
+use differential::sheets::MCRYPTON;
 use reference::cipher::{array_of_block, block_of_array, phi, ROUNDS};
 use reference::{array_after, Answer};
 
@@ -78,7 +78,7 @@ fn the_last_round_beside_sealing_and_opening_by_any_path() {
     };
     let mut random = Random::of_part(610);
     let mut both = both("last round");
-    for t in CLASSES {
+    for t in MCRYPTON {
         for _ in 0..BLOCKS {
             let (key, block) = (random.bytes(2 * t), random.block());
             let (_, sealed) = both.block(Direction::Encrypt, &key, &block, random.path(), &[0; 8]);
@@ -102,7 +102,7 @@ fn the_last_round_beside_sealing_and_opening_by_any_path() {
 fn no_block_beside_the_found_one_leads_there() {
     let mut random = Random::of_part(611);
     let mut both = both("neighbours");
-    for t in CLASSES {
+    for t in MCRYPTON {
         for r in 0..=ROUNDS {
             let (key, wanted) = (random.bytes(2 * t), random.block());
             let (_, found) = both.bench(&key, r, &wanted, &[0; 8]);
@@ -154,7 +154,7 @@ fn every_refusal_from_both_sides_and_in_its_order() {
             }
         }
     }
-    for key in CLASSES.map(|t| 2 * t) {
+    for key in MCRYPTON.map(|t| 2 * t) {
         for round in (0..=300).chain(NO_ROUNDS) {
             hold(&mut both, &mut random, key, round, 8, 8);
         }
@@ -172,7 +172,7 @@ fn long_spans_are_refused_by_their_whole_length() {
     let mut random = Random::of_part(613);
     let mut both = both("long spans");
     for more in [256, 65_536] {
-        for key in CLASSES.map(|t| 2 * t) {
+        for key in MCRYPTON.map(|t| 2 * t) {
             for round in [ROUNDS, ROUNDS + 1] {
                 hold(&mut both, &mut random, key + more, round, 8, 8);
                 hold(&mut both, &mut random, key, round, 8 + more, 8);

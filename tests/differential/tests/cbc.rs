@@ -5,10 +5,11 @@
 use differential::edition::Edition;
 use differential::letters::good_text;
 use differential::random::{seed, Random};
-use differential::sheets::{Keys, CLASSES, FIELD};
+use differential::sheets::{classes, key_bytes, Keys, CLASSES, FIELD};
 use differential::{des, library, openssl, report};
-use reference::cipher::{decrypt, encrypt, Block, Register};
+use reference::cipher::Block;
 use reference::modes::{cbc_decrypt, cbc_encrypt};
+use reference::SheetCipher;
 
 fn xor(a: Block, b: Block) -> Block {
     std::array::from_fn(|i| a[i] ^ b[i])
@@ -18,19 +19,9 @@ fn blocks(random: &mut Random, count: usize) -> Vec<Block> {
     (0..count).map(|_| random.block()).collect()
 }
 
-/// The library's encryption of one block, by a random path number.
-fn encrypted(random: &mut Random, key: &[u8], block: Block) -> Block {
-    let mut out = [0; 8];
-    let answer = library::encrypt_block(key, &block, random.path(), &mut out);
-    assert_eq!(answer.number, 0);
-    out
-}
-
-fn decrypted(random: &mut Random, key: &[u8], block: Block) -> Block {
-    let mut out = [0; 8];
-    let answer = library::decrypt_block(key, &block, random.path(), &mut out);
-    assert_eq!(answer.number, 0);
-    out
+/// A class's cipher in the second program.
+fn cipher_of(t: usize, key: &[u8]) -> SheetCipher {
+    SheetCipher::of_class(t, key).expect("a key of the class")
 }
 
 #[test]
@@ -40,18 +31,21 @@ fn the_second_program_s_cbc_of_0_to_30_blocks_is_the_library_s_blocks_chained() 
     for t in CLASSES {
         for count in 0..=30 {
             for _ in 0..10 {
-                let key = random.bytes(2 * t);
-                let register = Register::of_key(&key).expect("a key of t words");
+                let key = random.bytes(key_bytes(t));
+                let cipher = cipher_of(t, &key);
                 let start = random.block();
                 let text = blocks(&mut random, count);
-                let sealed = cbc_encrypt(&|block| encrypt(register, block), start, &text);
-                let opened = cbc_decrypt(&|block| decrypt(register, block), start, &text);
+                let sealed = cbc_encrypt(&|block| cipher.encrypt(block), start, &text);
+                let opened = cbc_decrypt(&|block| cipher.decrypt(block), start, &text);
                 assert_eq!((sealed.len(), opened.len()), (count, count));
                 let (mut before_sealed, mut before_opened) = (start, start);
                 for j in 0..count {
                     let chained = xor(text[j], before_sealed);
-                    assert_eq!(sealed[j], encrypted(&mut random, &key, chained));
-                    let unchained = decrypted(&mut random, &key, text[j]);
+                    assert_eq!(
+                        sealed[j],
+                        library::encrypted(t, &key, chained, random.path())
+                    );
+                    let unchained = library::decrypted(t, &key, text[j], random.path());
                     assert_eq!(opened[j], xor(unchained, before_opened));
                     (before_sealed, before_opened) = (sealed[j], text[j]);
                 }
@@ -122,21 +116,20 @@ fn plain_start(edition: Edition, number: u32, slot: usize) -> Block {
 }
 
 /// A sealed field opened by the second program's cipher and CBC.
-fn opened(key: &[u8], plain_start: Block, field: &[u8]) -> Vec<u8> {
-    let register = Register::of_key(key).expect("a key of t words");
-    let start = encrypt(register, plain_start);
+fn opened(cipher: SheetCipher, plain_start: Block, field: &[u8]) -> Vec<u8> {
+    let start = cipher.encrypt(plain_start);
     let blocks = field.as_chunks::<8>().0;
-    cbc_decrypt(&|block| decrypt(register, block), start, blocks).concat()
+    cbc_decrypt(&|block| cipher.decrypt(block), start, blocks).concat()
 }
 
-/// Edition 1, and editions 2 and 3 with serials about every edge; every class.
+/// Edition 1, and editions 2 and 3 with serials about every edge; every class of each.
 fn kinds_by_serial() -> Vec<(Edition, usize)> {
     let with_serial = [Edition::Two, Edition::Three]
         .into_iter()
         .flat_map(|edition| Edition::SERIALS.map(edition));
     let editions = std::iter::once(Edition::One).chain(with_serial);
     editions
-        .flat_map(|edition| CLASSES.map(|t| (edition, t)))
+        .flat_map(|edition| classes(edition).iter().map(move |t| (edition, *t)))
         .collect()
 }
 
@@ -160,22 +153,22 @@ fn a_write_stores_the_field_and_the_check_of_the_papers() {
             let [a, b, c, d, e, f, ..] = start;
             let mut plain = caption.clone();
             plain.resize(FIELD, 0);
-            let mut before = encrypted(&mut random, &keys.sealing, start);
+            let mut sealed = |block| library::encrypted(t, &keys.sealing, block, random.path());
+            let mut before = sealed(start);
             let mut field = Vec::new();
             for block in plain.as_chunks::<8>().0 {
-                before = encrypted(&mut random, &keys.sealing, xor(*block, before));
+                before = sealed(xor(*block, before));
                 field.extend(before);
             }
             let [g, h] = (length as u16).to_be_bytes();
             let message = [&[a, b, c, d, e, f, g, h], &field[..]].concat();
-            let mut check = [0; 8];
-            library::cmac(&keys.checking, &message, &mut check);
+            let check = library::check(t, &keys.checking, &message);
             let mark = [&[a, b, c, d, g, h, 0, 0], &check[..]].concat();
 
             assert_eq!(sheet[4..8], [a, b, c, d]);
             assert_eq!(sheet[edition.mark_place(slot)], mark);
             assert_eq!(sheet[edition.field_place(5, slot)], field);
-            assert_eq!(opened(&keys.sealing, start, &field), plain);
+            assert_eq!(opened(cipher_of(t, &keys.sealing), start, &field), plain);
         }
     }
     report(&format!(

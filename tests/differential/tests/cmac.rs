@@ -4,7 +4,7 @@
 use differential::both::Both;
 use differential::lent::Place;
 use differential::random::{seed, Random};
-use differential::sheets::CLASSES;
+use differential::sheets::MCRYPTON;
 use differential::{des, openssl, report};
 use reference::modes::{cmac_steps, cmac_with};
 use reference::Answer;
@@ -18,7 +18,7 @@ fn every_length_to_300_and_65536() {
     const KEYS: usize = 8;
     let mut random = Random::of_part(200);
     let mut both = both("lengths of messages");
-    for t in CLASSES {
+    for t in MCRYPTON {
         for length in (0..=300).chain([65_535, 65_536, 65_537]) {
             let keys = if length <= 300 { KEYS } else { 1 };
             for _ in 0..keys {
@@ -42,7 +42,7 @@ fn every_length_to_300_and_65536() {
 fn messages_that_look_like_padding() {
     let mut random = Random::of_part(201);
     let mut both = both("messages that look like padding");
-    for t in CLASSES {
+    for t in MCRYPTON {
         let key = random.bytes(2 * t);
         for length in 0..=24 {
             for filling in [0, 0x80, 0xff] {

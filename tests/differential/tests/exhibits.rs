@@ -1,12 +1,14 @@
 //! The bytes of the calls that are exhibited in proofs, made again by the second
 //! program: what `crates/exhibits/specs/Values.antt` and the records of blocks,
-//! round keys, rounds, CMAC, the bench and panels call its values are its values.
+//! round keys, rounds, CMAC, the bench, panels and PRESENT call its values are its
+//! values.
 
 use differential::report;
 use reference::cipher::sealing_key;
 use reference::panel::panel;
 use reference::{
-    bench_block, blank, cmac, decrypt_block, encrypt_block, read, store_field, write, Answer,
+    bench_block, blank, cmac, decrypt_block, encrypt_block, key_mark, present_decrypt_block,
+    present_encrypt_block, read, store_field, write, Answer,
 };
 
 const SEALING: [u8; 8] = [0x0d, 0x2a, 0x47, 0x64, 0x81, 0x9e, 0xbb, 0xd8];
@@ -61,14 +63,18 @@ impl Specs {
         numbers.into_iter().map(|number| number as u8).collect()
     }
 
-    /// The answer's number in a field `NAME : ... ≡ record { number = ...; ... }`.
-    fn answered(&self, field: &str) -> u8 {
+    /// A number of the answer in a field `NAME : ... ≡ record { number = ...; ... }`.
+    fn of_answer(&self, field: &str, name: &str) -> u8 {
         let rest = self.behind(&format!("pub {field} :"));
         let number = rest
-            .split("number = ")
+            .split(&format!("{name} = "))
             .nth(1)
             .and_then(|rest| rest.split(';').next());
         number.expect("a number").parse().expect("a number")
+    }
+
+    fn answered(&self, field: &str) -> u8 {
+        self.of_answer(field, "number")
     }
 }
 
@@ -165,6 +171,82 @@ fn broken_captions(worn: &[u8]) {
         assert!(after == sheet, "{field}");
     }
     report("exhibits: 4 writes of broken text");
+}
+
+/// Writes under keys of 10 bytes on three bytes and on a sheet for mCrypton, and a read
+/// of a sheet of edition 1 whose byte 2 is 21.
+#[test]
+fn keys_of_10_bytes() {
+    let exhibits = Specs::of("exhibits/specs/Exhibits.antt");
+    let (sealing, checking) = ([0; 10], [1; 10]);
+    let mut old = one_slot(0);
+    old[2] = 21;
+    let mut window = [7; 192];
+    for (field, sheet, number, rule) in [
+        ("ten-short", &[1, 2, 3][..], 4, 1),
+        ("ten-bytes", &one_slot(0), 5, 0),
+        ("present-old", &old, 4, 3),
+    ] {
+        let mut after = sheet.to_vec();
+        let answer = match field {
+            "present-old" => read(&sealing, &checking, sheet, 0, &mut window),
+            _ => write(&sealing, &checking, &mut after, 0, ABC),
+        };
+        let rules = [number, rule];
+        assert_eq!([answer.number, answer.rule], rules, "{field}");
+        assert_eq!(
+            ["number", "rule"].map(|name| exhibits.of_answer(field, name)),
+            rules,
+            "{field}"
+        );
+        assert!(after == sheet, "{field}");
+    }
+    assert_eq!(window, [0; 192]);
+    report("exhibits: 3 calls with keys of 10 bytes");
+}
+
+/// The authors' vectors, the exhibited calls on one block, and the key marks of pairs
+/// of bytes that all differ.
+#[test]
+fn present() {
+    let vectors = Specs::of("present/specs/Vectors.antt");
+    let calls = Specs::of("present/specs/Refusals.antt");
+    let witnesses = Specs::of("demands/specs/Witnesses.antt");
+    let bytes = |specs: &Specs, field: &str, end: &str| -> Vec<u8> {
+        let numbers = specs.numbers(&format!("pub {field} :"), end);
+        numbers.into_iter().map(|number| number as u8).collect()
+    };
+    for (t, bits, size) in [(21, 80, 10), (24, 128, 16)] {
+        for (name, key, block) in [
+            ("zero-zero", 0, 0),
+            ("ones-zero", 0xff, 0),
+            ("zero-ones", 0, 0xff),
+            ("ones-ones", 0xff, 0xff),
+        ] {
+            let (key, block) = (vec![key; size], [block; 8]);
+            let (mut sealed, mut opened) = ([0; 8], [0; 8]);
+            assert_eq!(present_encrypt_block(&key, &block, &mut sealed).number, 0);
+            assert_eq!(present_decrypt_block(&key, &sealed, &mut opened).number, 0);
+            assert_eq!(bytes(&vectors, &format!("{name}-{bits}"), "\n"), sealed);
+            assert_eq!(opened, block);
+        }
+        let key = vec![if bits == 80 { 0 } else { 0xff }; size];
+        let mut out = [0; 8];
+        assert_eq!(present_encrypt_block(&key, &[0; 8], &mut out).number, 0);
+        assert_eq!(calls.made(&format!("encrypt-{bits}")), out);
+        let made = calls.made(&format!("decrypt-{bits}"));
+        let zeros = vec![0; size];
+        assert_eq!(
+            present_decrypt_block(&zeros, &made[..8], &mut out).number,
+            0
+        );
+        assert_eq!(made[8..], out);
+
+        let [sealing, checking] = [0, 16].map(|first| (first..).take(size).collect::<Vec<u8>>());
+        let mark = key_mark(2, t, 0x5a04, &sealing, &checking).expect("a mark");
+        assert_eq!(bytes(&witnesses, &format!("present-{bits}"), "\n"), mark);
+    }
+    report("exhibits: PRESENT's 8 vectors, 4 calls on one block and 2 key marks");
 }
 
 #[test]

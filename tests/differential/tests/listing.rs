@@ -6,20 +6,21 @@ use differential::edition::Edition;
 use differential::lent::Place;
 use differential::random::{seed, Random};
 use differential::report;
-use differential::sheets::{fit_sheet, kinds, near_sheet, set_last_number, FAULTS};
+use differential::sheets::{fit_sheet, key_bytes, kinds, near_sheet, set_last_number, FAULTS};
 
 fn both(test: &str) -> Both {
     Both::new(Place::Guarded, &format!("{test}, seed {:#x}", seed()))
 }
 
 #[test]
-fn the_example_of_document_01() {
+fn the_example_of_document_01_with_every_class() {
     let mut both = both("the example");
-    let listing = b"slots 2 key 64 last 0\n0 blank\n1 blank\n";
-    for edition in Edition::ALL {
-        let sheet = edition.blank_sheet(2, 4);
+    for (edition, t) in kinds() {
+        let sheet = edition.blank_sheet(2, t);
+        let bits = 8 * key_bytes(t);
+        let listing = format!("slots 2 key {bits} last 0\n0 blank\n1 blank\n");
         for out in 0..=listing.len() + 3 {
-            both.list_into(&sheet, listing, out);
+            both.list_into(&sheet, listing.as_bytes(), out);
         }
     }
     let listings = both.listings;

@@ -5,7 +5,7 @@ use differential::both::{Both, Direction};
 use differential::lent::Place;
 use differential::random::{seed, Random};
 use differential::report;
-use differential::sheets::CLASSES;
+use differential::sheets::MCRYPTON;
 use reference::panel::{panel_blocks, MOST_PANEL_BYTES};
 use reference::Answer;
 
@@ -90,7 +90,7 @@ fn nothing_outside_is_touched() {
     let mut calls = 0;
     for place in [Place::FenceBefore, Place::FenceBehind] {
         let mut both = both(place, "panels beside a page");
-        for t in CLASSES {
+        for t in MCRYPTON {
             for length in (0..=40).chain([191, 192, 193, 255, 256, 257, 300, 65_535, 65_536]) {
                 let key = random.bytes(2 * t);
                 twice(&mut both, &mut random, &key, u64::MAX - 2, length);
@@ -107,7 +107,7 @@ fn nothing_outside_is_touched() {
 fn key_blocks_are_the_block_call_s() {
     let mut random = Random::of_part(1002);
     let mut both = both(Place::Guarded, "key blocks");
-    for t in CLASSES {
+    for t in MCRYPTON {
         for first in FIRSTS {
             let (key, panel) = (random.bytes(2 * t), random.bytes(301));
             let (_, sealed) = both.panel(&key, first, &panel, &[0; 301]);

@@ -8,7 +8,7 @@ use differential::letters::{any_text, bad_text, cut_letter, good_text};
 use differential::library;
 use differential::random::{seed, Random};
 use differential::report;
-use differential::sheets::{caption_length, kinds, set_last_number, Keys, FIELD};
+use differential::sheets::{caption_length, key_bytes, kinds, set_last_number, Keys, FIELD};
 use differential::term_sheet::{term_sheet, ALWAYS};
 use reference::{BROKEN_TEXT, OVERLONG, WORN};
 use std::str::from_utf8;
@@ -416,7 +416,7 @@ fn broken_text_among_the_refusals_of_a_write() {
         let others = &own.swapped();
         let other_class = &Keys::unlike(&mut random, if t == 4 { 6 } else { 4 });
         let (twins, wrong) = (
-            &Keys::twins(&mut random, 2 * t),
+            &Keys::twins(&mut random, key_bytes(t)),
             &Keys::of_lengths(&mut random, 8, 9),
         );
         let mut worn = own.blank_sheet(edition, 2, t);

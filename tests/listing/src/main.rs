@@ -12,6 +12,10 @@
 /// The editions, from the second program's tests.
 #[path = "../../../reference/tests/suite/edition.rs"]
 mod edition;
+/// A seeded generator, from the second program's tests.
+#[allow(dead_code)]
+#[path = "../../../reference/tests/suite/random.rs"]
+mod random;
 mod sheets;
 
 use sheets::Sheet;

@@ -2,11 +2,12 @@
 //! are no sheets.
 
 use crate::edition::Edition;
+use crate::random::Random;
 use std::collections::BTreeMap;
 
 const MARK: usize = 16;
 const FIELD: usize = 192;
-const CLASSES: [usize; 3] = [4, 6, 8];
+const CLASSES: [usize; 5] = [4, 6, 8, 21, 24];
 
 /// A sheet, the group it is counted in, and what it is.
 pub struct Sheet {
@@ -28,7 +29,7 @@ pub fn counts(sheets: &[Sheet]) -> BTreeMap<&str, usize> {
 pub fn all() -> Vec<Sheet> {
     let mut sheets = Sheets {
         all: Vec::new(),
-        random: Random(424),
+        random: Random::new(424),
         edition: Edition::BLANKED,
     };
     for edition in Edition::ALL {
@@ -71,11 +72,24 @@ impl Sheets {
         });
     }
 
+    /// The values of byte 2 that the edition has; those of PRESENT are edition 3's.
+    fn classes(&self) -> &'static [usize] {
+        match self.edition {
+            Edition::Three(_) => &CLASSES,
+            _ => &CLASSES[..3],
+        }
+    }
+
+    fn class(&mut self) -> usize {
+        let classes = self.classes();
+        classes[self.random.below(classes.len())]
+    }
+
     // ---- Fit ----
 
     fn blank(&mut self) {
         for slots in [1, 2, 3, 9, 10, 11, 99, 100, 101, 255, 256] {
-            for t in CLASSES {
+            for &t in self.classes() {
                 let what = format!("blank, {slots} slots, t = {t}");
                 let sheet = self.edition.blank_sheet(slots, t);
                 self.add("fit: blank", what, sheet);
@@ -86,9 +100,10 @@ impl Sheets {
     /// Sheets as writes and clears leave them.
     fn written(&mut self) {
         for round in 0..60 {
-            let t = CLASSES[round % 3];
+            let t = self.classes()[round % self.classes().len()];
             let slots = 1 + self.random.below(20);
-            let keys = [self.random.bytes(2 * t), self.random.bytes(2 * t)];
+            let bytes = reference::key_bytes(t).expect("a class");
+            let keys = [self.random.bytes(bytes), self.random.bytes(bytes)];
             let mut sheet = self.blank_for(&keys, slots, t);
             for _ in 0..self.random.below(30) {
                 let slot = self.random.below(slots);
@@ -147,7 +162,7 @@ impl Sheets {
 
     /// A sheet whose every slot is marked, by numbers up to w, over any field.
     fn marked(&mut self, slots: usize, w: u32) -> Vec<u8> {
-        let t = CLASSES[self.random.below(3)];
+        let t = self.class();
         let mut sheet = self.edition.blank_sheet(slots, t);
         sheet[4..8].copy_from_slice(&w.to_be_bytes());
         for slot in 0..slots {
@@ -174,7 +189,8 @@ impl Sheets {
             let sheet = self.edition.blank_sheet(n, 4);
             self.add("unfit: slot count", format!("{n} slots"), sheet);
         }
-        for t in (0..=255).filter(|t| ![4, 6, 8].contains(t)) {
+        let classes = self.classes();
+        for t in (0..=255).filter(|t| !classes.contains(&usize::from(*t))) {
             let mut sheet = self.marked(1, 9);
             sheet[2] = t;
             self.add("unfit: key class", format!("t = {t}"), sheet);
@@ -224,13 +240,19 @@ impl Sheets {
         let others = Edition::ALL.into_iter();
         for other in others.filter(|other| other.number() != own) {
             for slots in [1, 3, 256] {
-                for mut sheet in [self.edition.blank_sheet(slots, 4), self.marked(slots, 9)] {
+                let classes = [4, self.classes()[self.classes().len() - 1]];
+                let [first, last] = classes.map(|t| self.edition.blank_sheet(slots, t));
+                for mut sheet in [first, last, self.marked(slots, 9)] {
                     sheet[3] = other.number();
+                    let group = match sheet[2] {
+                        21 | 24 => "unfit: PRESENT in an older edition",
+                        _ => "fit: relabelled",
+                    };
                     let mut whole = sheet[..8].to_vec();
                     whole.resize(other.header(), 0);
                     whole.extend(&sheet[header..]);
                     let what = format!("{slots} slots, as {other:?}");
-                    self.add("fit: relabelled", what.clone(), whole);
+                    self.add(group, what.clone(), whole);
                     sheet.resize(other.sheet_length(slots), 0);
                     self.add("either: relabelled", what, sheet);
                 }
@@ -388,25 +410,4 @@ fn set_mark(edition: Edition, sheet: &mut [u8], slot: usize, number: u32, length
     mark[0..4].copy_from_slice(&number.to_be_bytes());
     mark[4..6].copy_from_slice(&length.to_be_bytes());
     mark[8..16].fill(0x5a);
-}
-
-/// A small seeded generator (splitmix64).
-struct Random(u64);
-
-impl Random {
-    fn next(&mut self) -> u64 {
-        self.0 = self.0.wrapping_add(0x9e3779b97f4a7c15);
-        let mut z = self.0;
-        z = (z ^ (z >> 30)).wrapping_mul(0xbf58476d1ce4e5b9);
-        z = (z ^ (z >> 27)).wrapping_mul(0x94d049bb133111eb);
-        z ^ (z >> 31)
-    }
-
-    fn below(&mut self, bound: usize) -> usize {
-        (self.next() % bound as u64) as usize
-    }
-
-    fn bytes(&mut self, length: usize) -> Vec<u8> {
-        (0..length).map(|_| self.next() as u8).collect()
-    }
 }

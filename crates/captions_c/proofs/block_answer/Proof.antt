@@ -1,7 +1,7 @@
 use mathlib.Core.Path.{refl}
 use Rattle.captions_c.specs.Answer.{blockMade}
 use Rattle.captions_c.proofs.Crossing.{crosses}
-use Rattle.mcrypton.specs.Calls.{blockOutcome}
+use Rattle.octets.specs.BlockCalls.{blockOutcome}
 use borrow.Author.Needs.{needs}
 use Rattle.captions_c.proofs.block_answer.Statement.{statement}
 use Rattle.captions_c.proofs.block_answer.Tie as tie

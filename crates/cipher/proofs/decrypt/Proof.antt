@@ -1,20 +1,14 @@
-use mathlib.Core.Path.{ap, ap₂, _∙_}
-use Rattle.schedule.specs.Schedule.{backStart}
-use Rattle.schedule.specs.declared.Register.{Register}
-use Rattle.mcrypton.specs.Bytes.{bytesOf}
-use Rattle.mcrypton.specs.Registers.{decryptFrom}
-use Rattle.cipher.specs.Key.{decrypted}
+use mathlib.Core.Path.{_∙_}
+use Rattle.cipher.proofs.Dispatch.{decrypt-present, decrypt-mcrypton}
 use borrow.Author.Needs.{needs}
 use Rattle.cipher.proofs.decrypt.Statement.{statement}
 use Rattle.cipher.proofs.decrypt.Tie as tie
 
-decrypt-words-requires : tie.Need-decrypt-words-requires
-unfolding backStart
-decrypt-words-requires c κs = ap (λ (u : Register). u .round) (c .backward-start .ensures)
-
 returns : tie.Need-returns
-unfolding decrypted
-returns c = c .block-bytes .ensures ∙ ap bytesOf (c .before .decrypt-words .ensures ∙ ap₂ (decryptFrom 0) (c .before .before .backward-start .ensures ∙ ap backStart (c .before .before .before .register .ensures)) (c .before .before .before .before .block-words .ensures))
+returns c = c .decrypt-words .ensures ∙ decrypt-present (c .before .before .before .before .args .k) (c .before .before .before .present-class .ensures) (c .before .before .if1 .taken) _
+
+returns-2 : tie.Need-returns-2
+returns-2 c = c .decrypt-mcrypton .ensures ∙ decrypt-mcrypton (c .before .before .before .args .k) (c .before .before .present-class .ensures) (c .before .if1 .left) _
 
 pub decrypt-spec : {M : Type 1} → statement M
-decrypt-spec = tie.close (tie.spec (λ c κs. search needs) (λ c κs. search needs) (λ c κs. search needs) decrypt-words-requires (λ c κs. search needs) returns)
+decrypt-spec = tie.close (tie.spec (λ c κs. search needs) (λ c κs. search needs) returns (λ c κs. search needs) returns-2)

@@ -1,31 +1,20 @@
 -- `cipher::decrypt_blocks` meets its contract.
-use mathlib.Core.Path.{ap, _∙_}
-use mathlib.Core.List.{map, map-map}
-use Rattle.schedule.specs.Schedule.{backStart}
-use Rattle.schedule.specs.declared.Register.{Register}
-use Rattle.mcrypton.specs.Bytes.{wordsOf, bytesOf}
-use Rattle.mcrypton.specs.Registers.{decryptFrom}
+use mathlib.Core.Path.{_∙_}
 use Rattle.cipher.specs.Field.{blocks}
-use Rattle.cipher.specs.Key.{keyRegister, decrypted}
+use Rattle.cipher.proofs.Dispatch.{all-present, all-mcrypton}
 use borrow.Author.Needs.{needs}
 use Rattle.cipher.proofs.decrypt_blocks.Statement.{statement}
 use Rattle.cipher.proofs.decrypt_blocks.Tie as tie
 
-decrypt-all-requires : tie.Need-decrypt-all-requires
-unfolding backStart
-decrypt-all-requires c κs = ap (λ (u : Register). u .round) (c .before .backward-start .ensures)
-
 returns : tie.Need-returns
-unfolding decrypted
 returns c =
-    let d = c .before .before in
-    let s = d .before .before in
-    let w = s .before .before in
-    let b = blocks 24 (w .before .before .args .s .now) in
-    let u = backStart (keyRegister (w .before .before .args .k)) in
-    c .field-bytes .ensures
-    ∙ rw (d .decrypt-all .ensures, s .backward-start .ensures, s .before .register .ensures, w .field-words .ensures)
-    (ap (map bytesOf) (map-map (decryptFrom 0 u) wordsOf b) ∙ map-map bytesOf (λ x. decryptFrom 0 u (wordsOf x)) b)
+    let a = c .before .before .before .before .before .before .args in
+    c .decrypt-all .ensures ∙ rw (c .before .field-blocks .ensures) (all-present (a .k) (c .before .before .before .before .present-class .ensures) (c .before .before .before .if1 .taken) (blocks 24 (a .s .now)))
+
+returns-2 : tie.Need-returns-2
+returns-2 c =
+    let a = c .before .before .before .before .args in
+    c .decrypt-blocks-mcrypton .ensures ∙ all-mcrypton (a .k) (c .before .before .present-class .ensures) (c .before .if1 .left) (blocks 24 (a .s .now))
 
 pub decrypt-blocks-spec : {M : Type 1} → statement M
-decrypt-blocks-spec = tie.close (tie.spec (λ c κs. search needs) (λ c κs. search needs) (λ c κs. search needs) (λ c. search needs) decrypt-all-requires (λ c κs. search needs) returns)
+decrypt-blocks-spec = tie.close (tie.spec (λ c κs. search needs) (λ c κs. search needs) (λ c κs. search needs) returns (λ c κs. search needs) returns-2)

@@ -1,19 +1,14 @@
-use mathlib.Core.Path.{ap, ap₂, _∙_}
-use Rattle.schedule.specs.declared.Register.{Register}
-use Rattle.mcrypton.specs.Bytes.{bytesOf}
-use Rattle.mcrypton.specs.Registers.{encryptFrom}
-use Rattle.cipher.specs.Key.{keyRegister, encrypted}
+use mathlib.Core.Path.{_∙_}
+use Rattle.cipher.proofs.Dispatch.{encrypt-present, encrypt-mcrypton}
 use borrow.Author.Needs.{needs}
 use Rattle.cipher.proofs.encrypt.Statement.{statement}
 use Rattle.cipher.proofs.encrypt.Tie as tie
 
-encrypt-words-requires : tie.Need-encrypt-words-requires
-unfolding keyRegister
-encrypt-words-requires c κs = ap (λ (u : Register). u .round) (c .register .ensures)
-
 returns : tie.Need-returns
-unfolding encrypted
-returns c = c .block-bytes .ensures ∙ ap bytesOf (c .before .encrypt-words .ensures ∙ ap₂ (encryptFrom 0) (c .before .before .register .ensures) (c .before .before .before .block-words .ensures))
+returns c = c .encrypt-words .ensures ∙ encrypt-present (c .before .before .before .before .args .k) (c .before .before .before .present-class .ensures) (c .before .before .if1 .taken) _
+
+returns-2 : tie.Need-returns-2
+returns-2 c = c .encrypt-mcrypton .ensures ∙ encrypt-mcrypton (c .before .before .before .args .k) (c .before .before .present-class .ensures) (c .before .if1 .left) _
 
 pub encrypt-spec : {M : Type 1} → statement M
-encrypt-spec = tie.close (tie.spec (λ c κs. search needs) (λ c κs. search needs) encrypt-words-requires (λ c κs. search needs) returns)
+encrypt-spec = tie.close (tie.spec (λ c κs. search needs) (λ c κs. search needs) returns (λ c κs. search needs) returns-2)

@@ -14,7 +14,6 @@ first-fault-spec =
     (λ c κs. search needs)
     (λ c. search (fault-count, not-true, needs))
     (λ c κs. search needs)
-    (λ c κs. search needs)
     (λ c. search (fault-class, not-true, not-false, needs))
     (λ c κs. search needs)
     (λ c κs. search needs)

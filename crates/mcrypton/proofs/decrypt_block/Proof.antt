@@ -6,7 +6,8 @@ use Rattle.mcrypton.specs.Cipher.{decryptBlock}
 use Rattle.mcrypton.specs.Registers.{decryptFrom}
 use Rattle.schedule.specs.declared.Register.{Register}
 use Rattle.mcrypton.specs.Calls.{decrypting}
-use Rattle.mcrypton.proofs.Calls.{wrong-key, wrong-block, wrong-output, accepted, through-words}
+use Rattle.octets.proofs.BlockCalls.{wrong-key, wrong-block, wrong-output, accepted}
+use Rattle.mcrypton.proofs.Calls.{through-words}
 use borrow.Author.Needs.{needs}
 use Rattle.mcrypton.proofs.decrypt_block.Statement.{statement}
 use Rattle.mcrypton.proofs.decrypt_block.Tie as tie
@@ -29,12 +30,17 @@ decrypt-chosen-requires c κs = ap (λ (u : Register). u .round) (c .backward-st
 
 returns-4 : tie.Need-returns-4
 unfolding decrypting decryptBytes decryptBlock decryptFrom decryptionKey backRegister
-returns-4 c = let s = c .before .before .before .before .before .before .before .before .before .before .before .before .before .before .before .before .args in
-    accepted (s .key .now) (s .block .now) (s .out .now) _ _ (c .before .before .before .before .before .before .before .before .before .before .before .before .key-length .ensures) (not-false _ (c .before .before .before .before .before .before .before .before .before .before .before .if1 .left)) (c .before .before .before .before .before .before .before .before .before .before .if2 .left)
-    (c .before .before .before .before .before .before .before .before .before .if3 .left)
-    (c .before .before .put-block .ensures
-    ∙ through-words (decryptFrom (s .path)) (backStart (start (wordsOf (s .key .now)))) _ (s .block .now) _ _ _ (c .before .before .before .before .before .backward-start .ensures ∙ ap backStart (c .before .before .before .before .before .before .start .ensures)) (c .before .before .before .before .before .before .before .before .before .before .if2 .left)
-    (c .before .before .before .before .before .before .before .before .block-at .ensures) (c .before .before .before .before .before .before .before .block-words .ensures) (c .before .before .before .before .decrypt-chosen .ensures))
+returns-4 c =
+    let y = c .before .before in
+    let z = y .before .before .before in
+    let u = z .before in
+    let w = u .before .before in
+    let o = w .before .before in
+    let b = o .before in
+    let q = b .before in
+    let s = q .before .before .before .before .before .args in
+    accepted _ (s .key .now) (s .block .now) (s .out .now) _ _ (q .before .key-length .ensures) (not-false _ (q .if1 .left)) (b .if2 .left) (o .if3 .left) (y .put-block .ensures)
+    (through-words (decryptFrom (s .path)) (backStart (start (wordsOf (s .key .now)))) _ (s .block .now) _ _ _ _ (u .backward-start .ensures ∙ ap backStart (u .before .start .ensures)) (b .if2 .left) (w .before .block-at .ensures) (w .block-words .ensures) (z .decrypt-chosen .ensures) (y .before .before .block-bytes .ensures))
 
 pub decrypt-block-spec : {M : Type 1} → statement M
-decrypt-block-spec = tie.close (tie.spec (λ c κs. search needs) returns returns-2 returns-3 (λ c κs. search needs) (λ c κs. search needs) (λ c κs. search needs) (λ c κs. search needs) decrypt-chosen-requires (λ c κs. search needs) (λ c. search needs) returns-4)
+decrypt-block-spec = tie.close (tie.spec (λ c κs. search needs) returns returns-2 returns-3 (λ c κs. search needs) (λ c κs. search needs) (λ c κs. search needs) (λ c κs. search needs) decrypt-chosen-requires (λ c κs. search needs) (λ c κs. search needs) (λ c. search needs) returns-4)

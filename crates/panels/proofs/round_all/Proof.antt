@@ -1,26 +1,26 @@
 -- `panels::round_all` meets its contract. The loop's invariant: what remains is what there was to do.
 use mathlib.Core.Path.{_≡_, sym, _∙_}
 use Prim.Native.Nat.{_≤_, _-_}
-use mathlib.Core.List.{map}
+use mathlib.Core.List.{[], map}
 use lib.ListN.{length}
 use Rattle.rounds.specs.Array.{tables, wordRound}
 use Rattle.rounds.specs.declared.Direction.the-variants.{Encrypt}
-use Rattle.mcrypton.proofs.Each.{each, each-none, each-here, each-all}
+use Rattle.octets.proofs.Each.{each, each-none, each-here, each-all}
 use borrow.Author.Needs.{needs}
 use Rattle.panels.proofs.round_all.Statement.{statement}
 use Rattle.panels.proofs.round_all.Tie as tie
 
 abbrev Inv-loop : tie.InvT-loop
-Inv-loop t k a₀ i₀ a i = (t ≡ tables) × (each (wordRound Encrypt k) i a a ≡ map (wordRound Encrypt k) a₀) × (length a ≡ length a₀) × (i ≤ length a₀)
+Inv-loop t k a₀ i₀ a i = (t ≡ tables) × (each [] (wordRound Encrypt k) i a a ≡ map (wordRound Encrypt k) a₀) × (length a ≡ length a₀) × (i ≤ length a₀)
 
 abbrev μ-loop : tie.MeasureT-loop
 μ-loop t k a₀ i₀ a i = length a₀ - i
 
 loop-again : tie.Need-loop-again Inv-loop μ-loop
-loop-again c = let l = c .before .before .before .loop in (l .inv .0, each-here (wordRound Encrypt (c .before .before .before .before .args .k)) (l .i) _ (search needs) (c .encrypt-round .ensures) ∙ l .inv .1, search needs, search needs)
+loop-again c = let l = c .before .before .before .loop in (l .inv .0, each-here [] (wordRound Encrypt (c .before .before .before .before .args .k)) (l .i) _ (search needs) (c .encrypt-round .ensures) ∙ l .inv .1, search needs, search needs)
 
 returns : tie.Need-returns Inv-loop μ-loop
-returns c = let l = c .before .loop in sym (each-all (wordRound Encrypt (c .before .before .args .k)) (l .i) (l .a) _ (search needs) (search needs)) ∙ l .inv .1
+returns c = let l = c .before .loop in sym (each-all [] (wordRound Encrypt (c .before .before .args .k)) (l .i) (l .a) _ (search needs) (search needs)) ∙ l .inv .1
 
 pub round-all-spec : {M : Type 1} → statement M
 round-all-spec =

@@ -5,7 +5,7 @@ use crate::both;
 use crate::edges::done;
 use differential::edition::Edition;
 use differential::random::Random;
-use differential::sheets::{some_serial, Keys, CLASSES};
+use differential::sheets::{key_bytes, some_serial, Keys, CLASSES};
 use reference::{OTHER_KEY_CLASS, TWIN_KEYS, WRONG_KEY, WRONG_SPAN};
 
 /// 208 times it is 208 in 64 bits.
@@ -14,21 +14,21 @@ const WRAPPING: usize = (1 << 60) + 1;
 /// The number that blanking has by the papers: 1 for keys or t, 2, 3, 5.
 fn refusal(keys: &Keys, n: usize, t: usize, length: usize) -> u8 {
     let bytes = keys.sealing.len();
-    let right_keys = matches!(bytes, 8 | 12 | 16) && keys.checking.len() == bytes;
+    let right_keys = matches!(bytes, 8 | 10 | 12 | 16) && keys.checking.len() == bytes;
     if !right_keys || !CLASSES.contains(&t) {
         WRONG_KEY
     } else if keys.sealing == keys.checking {
         TWIN_KEYS
     } else if !(1..=256).contains(&n) || length != 16 + 208 * n {
         WRONG_SPAN
-    } else if bytes != 2 * t {
+    } else if bytes != key_bytes(t) {
         OTHER_KEY_CLASS
     } else {
         0
     }
 }
 
-/// n = 1 is 224 bytes, n = 256 is 53264; t is 4, 6 or 8; every serial is taken.
+/// n = 1 is 224 bytes, n = 256 is 53264; t is 4, 6, 8, 21 or 24; every serial is taken.
 #[test]
 fn blanking() {
     let edition = Edition::BLANKED;
@@ -49,7 +49,7 @@ fn blanking() {
         WRAPPING,
         usize::MAX,
     ];
-    let classes = || (0..=20).chain([256 + 4, 65_536 + 6, (1 << 32) + 8, usize::MAX]);
+    let classes = || (0..=26).chain([256 + 4, 256 + 21, 65_536 + 6, (1 << 32) + 24, usize::MAX]);
     let (header, one) = (edition.header(), edition.sheet_length(1));
     for n in counts {
         let near_count = if n <= 258 { n } else { 1 };
@@ -92,7 +92,7 @@ fn blanking() {
 /// Pairs for a class: fit ones, then ones with a key of a wrong length, of unlike
 /// lengths, twins and pairs of another class, alone and together.
 fn pairs(random: &mut Random, t: usize) -> Vec<Keys> {
-    let bytes = 2 * t;
+    let bytes = key_bytes(t);
     let mut pairs = vec![
         Keys::unlike(random, t),
         Keys::unlike(random, t).swapped(),
@@ -102,17 +102,16 @@ fn pairs(random: &mut Random, t: usize) -> Vec<Keys> {
         Keys::of_lengths(random, bytes, bytes + 1),
         Keys::of_lengths(random, 0, bytes),
         Keys::of_lengths(random, bytes, 0),
-        Keys::of_lengths(random, 10, 10),
         Keys::of_lengths(random, bytes + 256, bytes + 256),
         Keys::twins(random, bytes),
         Keys::twins(random, 0),
         Keys::twins(random, bytes + 1),
     ];
-    for other in CLASSES.into_iter().filter(|other| *other != t) {
-        pairs.push(Keys::unlike(random, other));
-        pairs.push(Keys::twins(random, 2 * other));
-        pairs.push(Keys::of_lengths(random, bytes, 2 * other));
-        pairs.push(Keys::of_lengths(random, 2 * other, bytes));
+    for other in [8, 10, 12, 16].into_iter().filter(|other| *other != bytes) {
+        pairs.push(Keys::of_lengths(random, other, other));
+        pairs.push(Keys::twins(random, other));
+        pairs.push(Keys::of_lengths(random, bytes, other));
+        pairs.push(Keys::of_lengths(random, other, bytes));
     }
     pairs
 }
@@ -127,7 +126,7 @@ fn every_combination_of_refusals() {
         let pairs = pairs(&mut random, t);
         let classes = CLASSES
             .into_iter()
-            .chain([0, 5, 2 * t, 256 + t, usize::MAX]);
+            .chain([0, 5, key_bytes(t), 256 + t, usize::MAX]);
         for key_words in classes {
             for n in [1, 2, 0, 256, 257, 65_537, WRAPPING, usize::MAX] {
                 let right = edition.sheet_length(if n <= 257 { n } else { 1 });

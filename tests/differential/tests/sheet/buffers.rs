@@ -6,7 +6,7 @@ use differential::edition::Edition;
 use differential::random::{seed, Random};
 use differential::report;
 use differential::sheets::{
-    fit_sheet, kinds, near_sheet, some_caption, some_serial, Keys, CLASSES, FAULTS, FIELD,
+    classes, fit_sheet, kinds, near_sheet, some_caption, some_serial, Keys, CLASSES, FAULTS, FIELD,
 };
 use differential::terms::{day_near, some_terms};
 
@@ -22,9 +22,7 @@ pub fn each_call(both: &mut Both, random: &mut Random, edition: Edition, buffer:
     let n = room(edition, sheet.len());
     let t = random.pick(&CLASSES);
     let class = match sheet.get(2) {
-        Some(4) => 4,
-        Some(6) => 6,
-        Some(8) => 8,
+        Some(byte) if CLASSES.contains(&usize::from(*byte)) => usize::from(*byte),
         _ => t,
     };
     let keys = Keys::unlike(random, class);
@@ -53,7 +51,8 @@ fn with_header(random: &mut Random, edition: Edition, length: usize) -> Vec<u8> 
     let mut buffer = random.bytes(length);
     let n = (room(edition, length) + random.below(2)) as u16;
     let [high, low] = n.to_be_bytes();
-    let header = [high, low, random.pick(&[4, 6, 8]), edition.number()];
+    let t = random.pick(classes(edition)) as u8;
+    let header = [high, low, t, edition.number()];
     for (place, byte) in buffer.iter_mut().zip(header) {
         *place = byte;
     }
@@ -68,7 +67,7 @@ fn with_header(random: &mut Random, edition: Edition, length: usize) -> Vec<u8> 
 /// A sheet of the nearest count of slots, cut or made longer to a length.
 fn resized(random: &mut Random, edition: Edition, length: usize, filling: u8) -> Vec<u8> {
     let nearest = (length.saturating_sub(edition.header()) + 104) / 208;
-    let t = random.pick(&CLASSES);
+    let t = random.pick(classes(edition));
     let mut sheet = fit_sheet(random, edition, nearest.clamp(1, 256), t);
     sheet.resize(length, filling);
     sheet

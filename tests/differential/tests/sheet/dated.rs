@@ -8,7 +8,9 @@ use differential::edition::Edition;
 use differential::lent::Place;
 use differential::letters::good_text;
 use differential::random::{seed, Random};
-use differential::sheets::{caption_length, kinds, near_sheet, Keys, CLASSES, FAULTS, FIELD};
+use differential::sheets::{
+    caption_length, key_bytes, kinds, near_sheet, Keys, CLASSES, FAULTS, FIELD,
+};
 use differential::term_sheet::{
     closing_place, on_show, opening_place, put_number, term_sheet, Term, ALWAYS, LAST_DAY, NEVER,
 };
@@ -289,8 +291,8 @@ fn random_calls(
         for _ in 0..8 {
             let terms = some_terms(random, n);
             let keys = match random.below(20) {
-                0 => Keys::twins(random, 2 * t),
-                1 => Keys::of_lengths(random, 2 * t, 2 * t + 1),
+                0 => Keys::twins(random, key_bytes(t)),
+                1 => Keys::of_lengths(random, key_bytes(t), key_bytes(t) + 1),
                 2 => {
                     let class = random.pick(&CLASSES);
                     Keys::unlike(random, class)

@@ -7,9 +7,11 @@ use differential::edition::Edition;
 use differential::letters::good_text;
 use differential::random::Random;
 use differential::report;
-use differential::sheets::{kinds, last_number, set_last_number, Keys, FIELD};
+use differential::sheets::{key_bytes, kinds, last_number, set_last_number, Keys, FIELD};
+use differential::term_sheet::{term_sheet, ALWAYS};
 use reference::{
-    ALTERED, NO_SUCH_SLOT, OTHER_KEY_CLASS, OVERLONG, TWIN_KEYS, WORN, WRONG_KEY, WRONG_SPAN,
+    SheetCipher, ALTERED, NO_SUCH_SLOT, OTHER_KEY_CLASS, OVERLONG, TWIN_KEYS, WORN, WRONG_KEY,
+    WRONG_SPAN,
 };
 
 pub fn done(both: &Both, edge: &str) {
@@ -17,27 +19,33 @@ pub fn done(both: &Both, edge: &str) {
     report(&format!("sheet: {edge}: {calls} calls: {met}"));
 }
 
-/// Key bytes 7, 9, 13, 17 refused; 8, 12, 16 taken, each on its own class.
+/// Key bytes 7, 9, 11, 13, 15, 17 refused; 8, 10, 12, 16 taken, each on its own class
+/// and 16 on two.
 #[test]
-fn key_bytes() {
+fn lengths_of_keys() {
     let mut random = Random::of_part(500);
     let mut both = both("key bytes");
-    let lengths = || (0..=20).chain([8 + 256, 12 + 256, 16 + 65_536]);
+    let lengths = || (0..=20).chain([8 + 256, 10 + 256, 12 + 256, 16 + 65_536]);
+    let terms = term_sheet(&[ALWAYS; 2]);
     for (edition, t) in kinds() {
         for sealing in lengths() {
             for checking in lengths() {
                 let keys = Keys::of_lengths(&mut random, sealing, checking);
                 let number = match (sealing, checking) {
-                    (8 | 12 | 16, _) if sealing != checking => WRONG_KEY,
-                    (8 | 12 | 16, _) if sealing != 2 * t => OTHER_KEY_CLASS,
-                    (8 | 12 | 16, _) => 0,
+                    (8 | 10 | 12 | 16, _) if sealing != checking => WRONG_KEY,
+                    (8 | 10 | 12 | 16, _) if sealing != key_bytes(t) => OTHER_KEY_CLASS,
+                    (8 | 10 | 12 | 16, _) => 0,
                     _ => WRONG_KEY,
                 };
                 let mut sheet = keys.blank_sheet(edition, 2, t);
-                let answer = both.write(&keys, &mut sheet, 1, b"caption");
-                assert_eq!(answer.number, number, "{sealing} {checking} {t}");
-                let (answer, _) = both.read(&keys, &sheet, 1, FIELD);
-                assert_eq!(answer.number, number, "{sealing} {checking} {t}");
+                let mut blanked = vec![7; Edition::BLANKED.sheet_length(2)];
+                let answers = [
+                    both.write(&keys, &mut sheet, 1, b"caption").number,
+                    both.read(&keys, &sheet, 1, FIELD).0.number,
+                    both.dated_read(&keys, &sheet, &terms, 1, 7, FIELD).0.number,
+                    both.blank(&keys, &mut blanked, 2, t, 7).number,
+                ];
+                assert_eq!(answers, [number; 4], "{sealing} {checking} {t}");
             }
         }
     }
@@ -50,8 +58,8 @@ fn keys_that_differ_in_one_bit() {
     let mut random = Random::of_part(508);
     let mut both = both("keys that differ in one bit");
     for (edition, t) in kinds() {
-        for bit in 0..16 * t {
-            let mut keys = Keys::twins(&mut random, 2 * t);
+        for bit in 0..8 * key_bytes(t) {
+            let mut keys = Keys::twins(&mut random, key_bytes(t));
             let mut sheet = edition.blank_sheet(1, t);
             let answer = both.write(&keys, &mut sheet, 0, b"twins");
             assert_eq!(answer.number, TWIN_KEYS);
@@ -201,7 +209,7 @@ fn zeros_past_the_length() {
             let caption: Vec<u8> = (0..nonzero).map(|i| i as u8 % 128 | 1).collect();
             both.write(&keys, &mut sheet, 1, &caption);
             for length in 0..=192 {
-                put_length(edition, &keys, &mut sheet, length as u16);
+                put_length(edition, t, &keys, &mut sheet, length as u16);
                 let (answer, _) = both.read(&keys, &sheet, 1, FIELD);
                 let number = if length < nonzero { ALTERED } else { 0 };
                 assert_eq!(answer.number, number, "{nonzero} {length}");
@@ -213,13 +221,13 @@ fn zeros_past_the_length() {
 
 /// Gives slot 1 of a sheet of 2 another length, and the check that belongs to
 /// it.
-fn put_length(edition: Edition, keys: &Keys, sheet: &mut [u8], length: u16) {
+fn put_length(edition: Edition, t: usize, keys: &Keys, sheet: &mut [u8], length: u16) {
     let mark = edition.mark_place(1).start;
     sheet[mark + 4..mark + 6].copy_from_slice(&length.to_be_bytes());
     let mut message = sheet[mark..mark + 4].to_vec();
     message.extend([0, 1]);
     message.extend(length.to_be_bytes());
     message.extend(&sheet[edition.field_place(2, 1)]);
-    let check = &mut sheet[mark + 8..mark + 16];
-    reference::cmac(&keys.checking, &message, check);
+    let cipher = SheetCipher::of_class(t, &keys.checking).expect("a key of the class");
+    sheet[mark + 8..mark + 16].copy_from_slice(&cipher.cmac(&message));
 }

@@ -6,7 +6,7 @@ use differential::edition::Edition;
 use differential::letters::{bad_text, good_text};
 use differential::random::Random;
 use differential::report;
-use differential::sheets::{kinds, set_last_number, Keys, CLASSES, FIELD, UNKNOWN_EDITION};
+use differential::sheets::{key_bytes, kinds, set_last_number, Keys, FIELD, UNKNOWN_EDITION};
 use differential::term_sheet::{
     closing_place, opening_place, put_number, term_sheet, Term, ALWAYS, NEVER,
 };
@@ -15,20 +15,21 @@ const SLOTS: usize = 5;
 
 /// The pair that wrote the sheet, then pairs with something wrong.
 fn pairs(random: &mut Random, t: usize, right: &Keys) -> Vec<Keys> {
+    let bytes = key_bytes(t);
     let mut pairs = vec![
         right.clone(),
         right.swapped(),
         Keys::unlike(random, t),
-        Keys::twins(random, 2 * t),
+        Keys::twins(random, bytes),
         Keys::twins(random, 9),
-        Keys::of_lengths(random, 2 * t - 1, 2 * t),
-        Keys::of_lengths(random, 2 * t, 2 * t + 1),
+        Keys::of_lengths(random, bytes - 1, bytes),
+        Keys::of_lengths(random, bytes, bytes + 1),
         Keys::of_lengths(random, 0, 0),
     ];
-    for other in CLASSES.into_iter().filter(|other| *other != t) {
-        pairs.push(Keys::unlike(random, other));
-        pairs.push(Keys::twins(random, 2 * other));
-        pairs.push(Keys::of_lengths(random, 2 * t, 2 * other));
+    for other in [8, 10, 12, 16].into_iter().filter(|other| *other != bytes) {
+        pairs.push(Keys::of_lengths(random, other, other));
+        pairs.push(Keys::twins(random, other));
+        pairs.push(Keys::of_lengths(random, bytes, other));
     }
     pairs
 }

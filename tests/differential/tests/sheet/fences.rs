@@ -18,6 +18,7 @@ fn blocks_and_messages(both: &mut Both, random: &mut Random) {
             for direction in [Direction::Encrypt, Direction::Decrypt] {
                 for out in 7..=9 {
                     both.block(direction, &key, &block, random.path(), &random.bytes(out));
+                    both.present_block(direction, &key, &block, &random.bytes(out));
                 }
             }
         }

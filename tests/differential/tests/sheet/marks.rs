@@ -4,11 +4,14 @@
 
 use crate::edges::done;
 use crate::{both, FAR_SLOTS};
-use differential::both::{Both, Direction};
+use differential::both::Both;
 use differential::edition::Edition;
 use differential::letters::{bad_text, good_text};
+use differential::library;
 use differential::random::Random;
-use differential::sheets::{set_last_number, some_serial, Keys, CLASSES, FIELD};
+use differential::sheets::{
+    key_bytes, set_last_number, some_serial, Keys, CLASSES, FIELD, MCRYPTON,
+};
 use differential::term_sheet::{put_number, term_sheet, ALWAYS, NEVER};
 use reference::{NO_SUCH_SLOT, OTHER_KEYS};
 
@@ -16,15 +19,15 @@ const SLOTS: usize = 4;
 
 // ---- The mark ----
 
-/// The mark by the paper, of the library's blocks and CMAC: n (2 bytes), t,
-/// edition 3, serial (2), two zero bytes, sealed; the first six bytes of its CMAC.
-fn mark_by_hand(both: &mut Both, keys: &Keys, n: usize, t: usize, serial: u16) -> Vec<u8> {
+/// The mark by the paper, of the library's blocks and CMAC with the cipher of a class:
+/// n (2 bytes), t, edition 3, serial (2), two zero bytes, sealed; the first six bytes of
+/// its CMAC.
+fn mark_by_hand(class: usize, keys: &Keys, n: usize, t: usize, serial: u16) -> Vec<u8> {
     let [n0, n1] = (n as u16).to_be_bytes();
     let [s0, s1] = serial.to_be_bytes();
     let block = [n0, n1, t as u8, 3, s0, s1, 0, 0];
-    let (_, sealed) = both.block(Direction::Encrypt, &keys.sealing, &block, 0xffff, &[0; 8]);
-    let (_, mac) = both.cmac(&keys.checking, &sealed, &[0; 8]);
-    mac[..6].to_vec()
+    let sealed = library::encrypted(class, &keys.sealing, block, 0xffff);
+    library::check(class, &keys.checking, &sealed)[..6].to_vec()
 }
 
 /// A blanking over random bytes, with the mark that the paper says.
@@ -32,7 +35,7 @@ fn blank_and_look(both: &mut Both, random: &mut Random, n: usize, t: usize, seri
     let keys = Keys::unlike(random, t);
     let mut sheet = random.bytes(Edition::BLANKED.sheet_length(n));
     both.begin(Edition::Three(serial), &keys, &mut sheet, n, t);
-    assert_eq!(sheet[10..16], mark_by_hand(both, &keys, n, t, serial));
+    assert_eq!(sheet[10..16], mark_by_hand(t, &keys, n, t, serial));
     let wrong = keys.flipped(random.below(keys.bits()));
     for (pair, number) in [(&keys, 9), (&wrong, OTHER_KEYS)] {
         assert_eq!(both.read(pair, &sheet, n - 1, FIELD).0.number, number);
@@ -154,13 +157,19 @@ fn other_marks() {
             marks.push(mark);
         }
         marks.extend([
-            mark_by_hand(&mut both, &keys, SLOTS + 1, t, 0xa53c),
-            mark_by_hand(&mut both, &keys, SLOTS << 8, t, 0xa53c),
-            mark_by_hand(&mut both, &keys, SLOTS, t + 2, 0xa53c),
-            mark_by_hand(&mut both, &keys, SLOTS, t, 0x3ca5),
-            mark_by_hand(&mut both, &keys, SLOTS, t, 0),
-            mark_by_hand(&mut both, &keys.swapped(), SLOTS, t, 0xa53c),
+            mark_by_hand(t, &keys, SLOTS + 1, t, 0xa53c),
+            mark_by_hand(t, &keys, SLOTS << 8, t, 0xa53c),
+            mark_by_hand(t, &keys, SLOTS, t + 2, 0xa53c),
+            mark_by_hand(t, &keys, SLOTS, t, 0x3ca5),
+            mark_by_hand(t, &keys, SLOTS, t, 0),
+            mark_by_hand(t, &keys.swapped(), SLOTS, t, 0xa53c),
         ]);
+        // The other cipher's, and that of the other class.
+        if let 8 | 24 = t {
+            let other = 32 - t;
+            marks.push(mark_by_hand(other, &keys, SLOTS, t, 0xa53c));
+            marks.push(mark_by_hand(other, &keys, SLOTS, other, 0xa53c));
+        }
         for mark in marks.iter().filter(|mark| **mark != own) {
             let mut changed = sheet.clone();
             changed[10..16].copy_from_slice(mark);
@@ -179,9 +188,9 @@ fn other_marks() {
 /// Each bit of either key flipped, the keys exchanged, one of them another, and
 /// both others.
 fn other_pairs(random: &mut Random, keys: &Keys) -> Vec<Keys> {
-    let t = keys.sealing.len() / 2;
+    let bytes = keys.sealing.len();
     let mut pairs: Vec<Keys> = (0..keys.bits()).map(|bit| keys.flipped(bit)).collect();
-    let another = Keys::unlike(random, t);
+    let another = Keys::of_lengths(random, bytes, bytes);
     pairs.push(keys.swapped());
     pairs.push(Keys {
         sealing: another.sealing.clone(),
@@ -217,6 +226,36 @@ fn every_pair_but_the_sheet_s_own() {
     );
 }
 
+/// 16 bytes are keys of two classes. The pair that one sheet was blanked with is a
+/// stranger to the other, and the same pair has a mark of its own on each.
+#[test]
+fn sixteen_bytes_of_the_other_cipher() {
+    let mut random = Random::of_part(608);
+    let mut both = both("pairs of the other cipher");
+    for _ in 0..20 {
+        let serial = some_serial(&mut random);
+        let pairs = [8, 24].map(|t| Keys::unlike(&mut random, t));
+        let mut blanked = |keys: &Keys, t| {
+            let mut sheet = random.bytes(Edition::BLANKED.sheet_length(SLOTS));
+            both.begin(Edition::Three(serial), keys, &mut sheet, SLOTS, t);
+            assert_eq!(both.write(keys, &mut sheet, 1, b"caption").number, 0);
+            assert_eq!(both.read(keys, &sheet, 1, FIELD).0.length, 7);
+            sheet
+        };
+        let sheets = [blanked(&pairs[0], 8), blanked(&pairs[1], 24)];
+        let same = [8, 24].map(|t| blanked(&pairs[0], t));
+        assert!(same[0][10..] != same[1][10..]);
+        hold_others(&mut both, &pairs[1], &sheets[0], every_slot());
+        hold_others(&mut both, &pairs[0], &sheets[1], every_slot());
+        for (mut sheet, t) in same.into_iter().zip([24, 8]) {
+            sheet[2] = t;
+            hold_others(&mut both, &pairs[0], &sheet, every_slot());
+        }
+    }
+    both.hold_met([0, 14]);
+    done(&both, "16 bytes of the other cipher");
+}
+
 /// The same pairs on the older editions: another pair finds a caption altered, or
 /// shown with other bytes, and writes over it.
 #[test]
@@ -225,7 +264,7 @@ fn older_editions_never_give_14() {
     let mut both = both("other pairs on older editions");
     let terms = term_sheet(&[ALWAYS; SLOTS]);
     for edition in [Edition::One, Edition::Two(0), Edition::Two(0xa53c)] {
-        for t in CLASSES {
+        for t in MCRYPTON {
             let (keys, sheet) = mixed_sheet(&mut random, edition, t);
             for (number, others) in other_pairs(&mut random, &keys).iter().enumerate() {
                 for slot in [number % SLOTS, SLOTS] {
@@ -273,8 +312,8 @@ impl Order {
             own,
             others,
             other_class: Keys::unlike(random, if t == 4 { 6 } else { 4 }),
-            wrong: Keys::of_lengths(random, 2 * t, 2 * t - 1),
-            twins: Keys::twins(random, 2 * t),
+            wrong: Keys::of_lengths(random, key_bytes(t), key_bytes(t) - 1),
+            twins: Keys::twins(random, key_bytes(t)),
             sheet,
             unfit,
         }

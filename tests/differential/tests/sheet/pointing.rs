@@ -7,7 +7,7 @@ use differential::edition::Edition;
 use differential::letters::good_text;
 use differential::random::Random;
 use differential::report;
-use differential::sheets::{kinds, set_last_number, Keys, FIELD};
+use differential::sheets::{kinds, set_last_number, Keys, FIELD, MCRYPTON};
 use differential::term_sheet::{put_number, term_sheet, ALWAYS};
 use reference::Pointed;
 
@@ -207,7 +207,10 @@ fn bytes_behind_the_caption() {
     for (edition, t) in kinds() {
         let keys = Keys::unlike(&mut random, t);
         for length in [0, 1, 8, 45, 100, 184, 191, 192] {
-            for place in length..=FIELD {
+            // One in three of PRESENT, and all about the ends.
+            let near_end = |place: usize| place < length + 2 || place > FIELD - 2;
+            let mcrypton = MCRYPTON.contains(&t);
+            for place in (length..=FIELD).filter(|p| mcrypton || p % 3 == 0 || near_end(*p)) {
                 let mut sheet = good_sheet(&mut random, edition, t, &keys);
                 let mut field = [0; FIELD];
                 field[..length].copy_from_slice(&random.bytes(length));

@@ -6,9 +6,14 @@ use crate::edges::done;
 use differential::both::Both;
 use differential::edition::Edition;
 use differential::random::Random;
-use differential::sheets::{kinds, other_editions, set_last_number, Keys, CLASSES, FIELD};
+use differential::sheets::{
+    classes, kinds, other_editions, set_last_number, Keys, CLASSES, FIELD, MCRYPTON,
+    UNKNOWN_EDITION,
+};
 use differential::term_sheet::{term_sheet, ALWAYS};
-use reference::{OTHER_KEYS, UNFIT_SHEET};
+use reference::{
+    NO_SUCH_SLOT, OTHER_KEYS, OTHER_KEY_CLASS, RULE_EDITION, RULE_KEY_CLASS, UNFIT_SHEET,
+};
 use std::collections::BTreeSet;
 
 const SLOTS: usize = 3;
@@ -72,16 +77,19 @@ fn unlike_serials_seal_from_unlike_starts() {
     let mut both = both("unlike serials");
     for t in CLASSES {
         let keys = Keys::unlike(&mut random, t);
-        let old = written_sheet(&mut both, &keys, Edition::One, t);
+        let has_older = MCRYPTON.contains(&t);
+        let old = has_older.then(|| written_sheet(&mut both, &keys, Edition::One, t));
         let mut sheet = random.bytes(Edition::BLANKED.sheet_length(SLOTS));
         let mut first_blocks = BTreeSet::new();
         for serial in Edition::SERIALS {
             let edition = Edition::Three(serial);
             both.begin(edition, &keys, &mut sheet, SLOTS, t);
             write_captions(&mut both, &keys, &mut sheet);
-            assert_eq!(sheet[16..] == old[8..], serial == 0);
-            let second = written_sheet(&mut both, &keys, Edition::Two(serial), t);
-            assert_eq!(sheet[16..], second[16..]);
+            if let Some(old) = &old {
+                assert_eq!(sheet[16..] == old[8..], serial == 0);
+                let second = written_sheet(&mut both, &keys, Edition::Two(serial), t);
+                assert_eq!(sheet[16..], second[16..]);
+            }
             let field = &sheet[edition.field_place(SLOTS, 2)];
             first_blocks.insert(field[..8].to_vec());
         }
@@ -130,6 +138,50 @@ fn every_value_of_byte_3() {
     done(&both, "byte 3 at every value, at each edition's length");
 }
 
+/// Byte 2 of each edition at every value, and of what is no edition, held to 4, 6 or 8
+/// there: rule 3 comes before rule 4. A fit sheet's key class is byte 2's.
+#[test]
+fn every_value_of_byte_2() {
+    let mut random = Random::of_part(575);
+    let mut both = both("byte 2");
+    let pairs = [4, 6, 24, 21].map(|t| Keys::unlike(&mut random, t));
+    let terms = term_sheet(&[ALWAYS; SLOTS]);
+    for edition in Edition::ALL {
+        let sheet = edition.blank_sheet(SLOTS, 4);
+        for byte_3 in [edition.number(), 0, UNKNOWN_EDITION, 255] {
+            let known = byte_3 == edition.number();
+            let fit = if known { classes(edition) } else { &MCRYPTON };
+            for (byte_2, keys) in (0..=255).flat_map(|t| pairs.iter().map(move |keys| (t, keys))) {
+                let mut near = sheet.clone();
+                near[2..4].copy_from_slice(&[byte_2, byte_3]);
+                let t = usize::from(byte_2);
+                let bytes = reference::key_bytes(t);
+                let expected = match fit.contains(&t) {
+                    false => (UNFIT_SHEET, RULE_KEY_CLASS),
+                    true if !known => (UNFIT_SHEET, RULE_EDITION),
+                    true if bytes != Some(keys.sealing.len()) => (OTHER_KEY_CLASS, 0),
+                    true if byte_3 == 3 => (OTHER_KEYS, 0),
+                    true => (NO_SUCH_SLOT, 0),
+                };
+                let answers = [
+                    both.read(keys, &near, SLOTS, FIELD).0,
+                    both.dated_read(keys, &near, &terms, SLOTS, 9, FIELD).0,
+                    both.write(keys, &mut near.clone(), SLOTS, b"another"),
+                ];
+                for answer in answers {
+                    assert_eq!((answer.number, answer.rule), expected, "{byte_2} {byte_3}");
+                }
+                both.list(&near);
+                let number = if expected.0 == 4 { 4 } else { NO_SUCH_SLOT };
+                assert_eq!(both.clear(&mut near, SLOTS).number, number);
+            }
+        }
+    }
+    both.hold_met([4, 5, 6, 14]);
+    both.hold_pointed_at([0, 3, 4]);
+    done(&both, "byte 2 at every value, in each edition and in none");
+}
+
 /// The sheet with another edition's number and length: bytes put on or taken
 /// off at its end, or in its header, where marks and fields stay whole.
 fn relabelled(edition: Edition, other: Edition, sheet: &[u8]) -> [Vec<u8>; 2] {
@@ -160,7 +212,7 @@ fn sheets_relabelled_as_another_edition() {
     let editions = Edition::ALL.into_iter();
     for edition in editions.chain([Edition::Two(0), Edition::Three(0)]) {
         for other in other_editions(edition) {
-            for t in CLASSES {
+            for t in MCRYPTON {
                 for w in [2, u32::MAX] {
                     let keys = Keys::unlike(&mut random, t);
                     let mut blank = keys.blank_sheet(edition, SLOTS, t);

@@ -1,0 +1,10 @@
+use mathlib.Core.Path.{_∙_}
+use borrow.Author.Needs.{needs}
+use Rattle.captions_c.proofs.captions_present_encrypt_block.Statement.{statement}
+use Rattle.captions_c.proofs.captions_present_encrypt_block.Tie as tie
+
+returns : tie.Need-returns
+returns c = c .block-answer .ensures _ ∙ c .before .before .before .encrypt-block .ensures
+
+pub captions-present-encrypt-block-spec : {M : Type 1} → statement M
+captions-present-encrypt-block-spec = tie.close (tie.spec (λ c κs. search needs) (λ c κs. search needs) (λ c. search needs) returns)
