@@ -185,6 +185,7 @@ fn field_blocks(s: &[u8]) -> [[u8; 8]; 24]
     b
 }
 
+// The 24 blocks of a field decrypted by the cipher of the class.
 pub fn decrypt_blocks(k: Key, s: &[u8]) -> [[u8; 8]; 24]
     requires { ⌜ 192 ≤ length (now s) ⌝ }
     ensures { λ r. ⌜ r ≡ map (decrypted k) (blocks 24 (now (s .entry))) ⌝ }

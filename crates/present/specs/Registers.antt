@@ -1,14 +1,13 @@
--- Keys in registers: given as bytes, and as words.
+-- Keys that are given as words: the register of one, a block under one, and what it is that words spell a key.
 use Prim.Native.Nat.{ℕ, _+_, _*_, _<_}
 use mathlib.Core.Path.{_≡_}
 use mathlib.Core.Bool.{Bool}
 use mathlib.Core.List.{List}
 use lib.ListN.{getD, length}
 use Rattle.octets.specs.Bytes.{if_then_else_, be, number}
-use Rattle.present_schedule.specs.Registers.{keysFrom, Fits}
+use Rattle.present_schedule.specs.Registers.{keysFrom}
 use Rattle.present_schedule.specs.declared.Register.{Register}
 use Rattle.present.specs.Present.{encrypt, decrypt}
-use Rattle.present.specs.Bytes.{roundKeys}
 
 -- the number that the four words of w from place a spell
 abbrev pub fourWords : List ℕ → ℕ → ℕ
