@@ -1,17 +1,19 @@
 // Days of the calendar and their dates: day 0 is 2000-01-01, and the last day is 36524, 2099-12-31.
+#![tactic(auto)]
+
 ghost use Rattle.std.specs.Prelude.{◌≡◌, ◌+◌, ◌≤◌, ◌<◌, leb};
 ghost use Rattle.calendar.specs.Calendar.{leap, month_days, days_before_year, day_number, is_date, day_of_date, date_of_day};
 ghost use Rattle.calendar.specs.Answers.{day_outcome, date_outcome};
 ghost use Rattle.calendar.specs.Laws.{IsDate};
 ghost use Rattle.calendar.specs.Steps.{InRange, lacking, long_start, long_day, Holds};
 
-#[derive(Drop)]
+#[derive(Clone, Copy)]
 pub enum DayAnswer {
     Day(u16),
     NoSuchDate,
 }
 
-#[derive(Drop)]
+#[derive(Clone, Copy)]
 pub enum DateAnswer {
     Date { year: u16, month: u8, day: u8 },
     NoSuchDate,

@@ -1,15 +1,17 @@
 // The answers of the calls on a sheet. What the calls mean is defined in specs/, and what holds of lists of them is proved in proofs/.
+#![tactic(auto)]
+
 use faults::Fault;
 
 // What of an altered slot differs: its check, or else the first opened byte at or past the length that isn't zero.
-#[derive(Drop)]
+#[derive(Clone, Copy)]
 pub enum Change {
     Check,
     Byte(u8),
 }
 
 // An unfit sheet's answer carries its first fault, an altered slot's the slot and what differs.
-#[derive(Drop)]
+#[derive(Clone, Copy)]
 pub enum Answer {
     Accepted(u16),
     WrongKey,
@@ -27,7 +29,7 @@ pub enum Answer {
 }
 
 // What a table of tests comes to.
-#[derive(Drop)]
+#[derive(Clone, Copy)]
 pub enum Verdict {
     Pass,
     Refuse(Answer),

@@ -1,4 +1,6 @@
 // What C and Rust link: each call behind its C name, its answer as a number and a length, and where it points.
+#![tactic(auto)]
+
 ghost use Rattle.std.specs.Prelude.{◌≡◌, List, ℕ};
 ghost use Rattle.text.specs.Place.{broken_at};
 ghost use Rattle.octets.specs.BlockCalls.{block_outcome};
@@ -21,21 +23,21 @@ ghost use Rattle.captions_c.specs.Answer.{crossed, plain, day_crossed, date_cros
 use points::Pointed;
 
 #[repr(C)]
-#[derive(Drop)]
+#[derive(Clone, Copy)]
 pub struct Answer {
     pub number: u8,
     pub length: u16,
 }
 
 #[repr(C)]
-#[derive(Drop)]
+#[derive(Clone, Copy)]
 pub struct Day {
     pub number: u8,
     pub day: u16,
 }
 
 #[repr(C)]
-#[derive(Drop)]
+#[derive(Clone, Copy)]
 pub struct Date {
     pub number: u8,
     pub year: u16,

@@ -1,4 +1,6 @@
 // The bench for tag chips (document 02, request 4): the one block that leads to a wanted array after a round.
+#![tactic(auto)]
+
 ghost use Rattle.std.specs.Prelude.{◌≡◌, ◌<◌};
 ghost use Rattle.schedule.specs.Schedule.{forward, times};
 ghost use Rattle.chip_bench.specs.Bench.{taken_back, leading_block};
@@ -7,7 +9,7 @@ ghost use Rattle.chip_bench.specs.Calls.{bench_outcome, benching};
 use rounds::Direction;
 use schedule::Register;
 
-#[derive(Drop)]
+#[derive(Clone, Copy)]
 pub enum BenchAnswer {
     Accepted,
     WrongKey,

@@ -1,4 +1,6 @@
 // The block cipher under a loaded key: what the crates above know of mCrypton and of PRESENT. Its class chooses between them.
+#![tactic(auto)]
+
 ghost use Rattle.std.specs.Prelude.{◌≡◌, map, ◌<◌, ◌≤◌, length};
 ghost use Rattle.cipher.specs.Key.{mcrypton_class, present_class, class_known, key_bytes, sheet_key_length, loaded, key_register, mcrypton_encrypted, mcrypton_decrypted, encrypted, decrypted};
 ghost use Rattle.cipher.specs.Field.{blocks};
@@ -7,7 +9,7 @@ ghost use Rattle.mcrypton.specs.Bytes.{words_of, bytes_of};
 use schedule::Register;
 
 // A loaded key: its class and its words, with zeros after them.
-#[derive(Drop)]
+#[derive(Clone, Copy)]
 pub struct Key {
     pub class: usize,
     pub words: [u16; 8],

@@ -1,4 +1,6 @@
 // The dated read: a caption is opened only on a day within its slot's term.
+#![tactic(auto)]
+
 ghost use Rattle.std.specs.Prelude.{◌≡◌, true};
 ghost use Rattle.octets.specs.Bytes.{zeros};
 ghost use Rattle.layout.specs.Layout.{slots, fit};
@@ -10,7 +12,7 @@ ghost use Rattle.dated.specs.Inner.{dated_fit, dated_shown};
 use captions::{Answer, Verdict};
 
 // What a read answers, or one of the three refusals that a date brings.
-#[derive(Drop)]
+#[derive(Clone, Copy)]
 pub enum DatedAnswer {
     Read(Answer),
     UnfitTerms,

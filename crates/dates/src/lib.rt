@@ -1,4 +1,6 @@
 // A date as text, YYYY-MM-DD, and a day from such a text.
+#![tactic(auto)]
+
 ghost use Rattle.std.specs.Prelude.{◌≡◌, ◌+◌, ◌<◌, length};
 ghost use Rattle.calendar.specs.Answers.{day_outcome};
 ghost use Rattle.dates.specs.DateText.{date_text, day_text, digit_at, two_at, day_of_text};

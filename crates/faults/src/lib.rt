@@ -1,4 +1,6 @@
 // The first rule of the layout that a sheet breaks. It is looked for where a sheet has been refused; whether it is fit is found faster by `layout::fit_sheet`.
+#![tactic(auto)]
+
 ghost use Rattle.std.specs.Prelude.{◌≡◌, false, ◌+◌, ◌≤◌, ◌<◌, length};
 ghost use Rattle.layout.specs.Layout.{edition_of, slots, last_write, fit_slot};
 ghost use Rattle.layout.specs.Shape.{SlotIn, SheetOf};
@@ -8,7 +10,7 @@ ghost use Rattle.faults.specs.Inner.{zero_place, slots_fault, size_fault, mark_f
 use layout::Shape;
 
 // The rules of a header, in the order of its bytes; the last is that of the sheet's length.
-#[derive(Drop)]
+#[derive(Clone, Copy)]
 pub enum HeaderRule {
     Short,
     Count,
@@ -19,7 +21,7 @@ pub enum HeaderRule {
 }
 
 // The rules of a written slot's mark, in the order of its bytes.
-#[derive(Drop)]
+#[derive(Clone, Copy)]
 pub enum MarkRule {
     Number,
     Length,
@@ -27,7 +29,7 @@ pub enum MarkRule {
 }
 
 // The rule that a sheet breaks first, with the slot where it is a mark's.
-#[derive(Drop)]
+#[derive(Clone, Copy)]
 pub enum Fault {
     Nothing,
     Header(HeaderRule),

@@ -1,4 +1,6 @@
 // The key mark of a sheet, by which it knows the pair of keys that it was blanked with.
+#![tactic(auto)]
+
 ghost use Rattle.std.specs.Prelude.{◌≡◌, true};
 ghost use Rattle.layout.specs.Layout.{edition_of, key_class, fit};
 ghost use Rattle.captions.specs.Captions.{pair, loaded_for, mark_block, key_mark, other_keys};

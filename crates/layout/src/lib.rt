@@ -1,11 +1,13 @@
 // The layout of a sheet: its shape, the test that it meets every rule, and the stores of whole slots and header fields.
+#![tactic(auto)]
+
 ghost use Rattle.std.specs.Prelude.{◌≡◌, ◌&&◌, ◌≤◌, ◌<◌, eqb, length};
 ghost use Rattle.octets.specs.Bytes.{zeros, all_below};
 ghost use Rattle.layout.specs.Layout.{edition_of, new_edition, slots, key_class, last_write, slot_count, sheet_size, mark_at, field_at, blank_slot, fit_slot, fit, store_slot, store_last, blank_sheet};
 ghost use Rattle.layout.specs.Shape.{has_serial, shape_of, SlotIn, SheetOf};
 ghost use Rattle.layout.specs.Marks.{blank_after, written_after};
 
-#[derive(Drop)]
+#[derive(Clone, Copy)]
 pub struct Shape {
     pub header: usize,
     pub slots: usize,

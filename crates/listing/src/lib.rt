@@ -1,4 +1,6 @@
 // The listing of a sheet as lines of text.
+#![tactic(auto)]
+
 ghost use Rattle.std.specs.Prelude.{◌≡◌, ◌++◌, ◌+◌, ◌*◌, ◌≤◌, ◌<◌, length};
 ghost use Rattle.cipher.specs.Key.{key_bytes};
 ghost use Rattle.layout.specs.Shape.{SheetOf, SlotIn};

@@ -1,4 +1,6 @@
 // mCrypton (document 000): a block encrypted or decrypted with the key schedule on the fly, and the public calls on one block.
+#![tactic(auto)]
+
 ghost use Rattle.std.specs.Prelude.{◌≡◌, ◌/◌, ◌%◌, ◌<◌, get_or, map};
 ghost use Rattle.rounds.specs.Array.{tables, σ, φ, word_round};
 ghost use Rattle.rounds.specs.declared.Direction.TheVariants.{Decrypt};

@@ -1,4 +1,6 @@
 // CBC of NIST SP 800-38A and CMAC of NIST SP 800-38B over a cipher with a block of 64 bits.
+#![tactic(auto)]
+
 ghost use Rattle.std.specs.Prelude.{◌≡◌, List, ◌++◌, ℕ, ◌+◌, ◌-◌, ◌*◌, ◌/◌, ◌%◌, ◌≤◌, ◌<◌, eqb, length};
 ghost use Rattle.octets.specs.Bytes.{put, zeros};
 ghost use Rattle.cipher.specs.Key.{encrypted, decrypted};
@@ -137,7 +139,7 @@ fn double_block(b: [u8; 8]) -> [u8; 8]
 }
 
 // What 6.1 makes of a key: L, and the subkeys K1 and K2.
-#[derive(Drop)]
+#[derive(Clone, Copy)]
 pub struct SubkeySet {
     pub l: [u8; 8],
     pub k1: [u8; 8],
@@ -266,7 +268,7 @@ pub fn mac_one(k: cipher::Key, b: [u8; 8]) -> [u8; 8]
     mac(k, b"", &b)
 }
 
-#[derive(Drop)]
+#[derive(Clone, Copy)]
 pub enum MacAnswer {
     Accepted,
     WrongKey,

@@ -1,11 +1,13 @@
 // Bytes of slices: filled, copied, compared, and read and written as numbers with the high byte first; and what a call on one block answers.
+#![tactic(auto)]
+
 ghost use Rattle.std.specs.Prelude.{◌≡◌, ◌++◌, ◌+◌, ◌≤◌, ◌<◌, length, get_or};
 ghost use Rattle.octets.specs.Bytes.{be, number, zeros, part, put, all_zero, same};
 ghost use Rattle.octets.specs.BlockCalls.{block_outcome};
 ghost use Rattle.octets.specs.declared.BlockAnswer.TheVariants.{Accepted};
 
 // What a public call on one block answers, whatever the cipher.
-#[derive(Drop)]
+#[derive(Clone, Copy)]
 pub enum BlockAnswer {
     Accepted,
     WrongKey,

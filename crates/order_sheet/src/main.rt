@@ -1,4 +1,6 @@
 // Takes the names of a caption sheet and its term sheet and a date, and writes the running order of that day.
+#![tactic(auto)]
+
 ghost use Rattle.io.specs.Counts.{IsPrefixLen};
 
 use running_order::OrderAnswer;

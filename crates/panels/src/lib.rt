@@ -1,4 +1,6 @@
 // Wall panels (document 02, request 8): counter mode of NIST SP 800-38A with mCrypton.
+#![tactic(auto)]
+
 ghost use Rattle.std.specs.Prelude.{◌≡◌, ◌*◌, ◌≤◌, map, length, take};
 ghost use Rattle.rounds.specs.Array.{tables, word_round};
 ghost use Rattle.rounds.specs.declared.Direction.TheVariants.{Encrypt};
@@ -11,7 +13,7 @@ ghost use Rattle.panels.specs.Calls.{panel_outcome, panelling};
 
 use schedule::Register;
 
-#[derive(Drop)]
+#[derive(Clone, Copy)]
 pub enum PanelAnswer {
     Accepted,
     WrongKey,

@@ -1,1 +1,2 @@
 // No code: what a refusal points at is stated in specs/ and proved in proofs/.
+#![tactic(auto)]

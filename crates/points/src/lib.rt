@@ -1,4 +1,6 @@
 // The answers of read, write and dated read as numbers: the refusal's, and the rule, slot and place that it points at.
+#![tactic(auto)]
+
 ghost use Rattle.std.specs.Prelude.{◌≡◌};
 ghost use Rattle.faults.specs.Faults.{point, header_point, mark_point, fault_point};
 ghost use Rattle.captions.specs.Answers.{change_point};
@@ -9,7 +11,7 @@ use dated::DatedAnswer;
 use faults::{Fault, HeaderRule, MarkRule};
 
 #[repr(C)]
-#[derive(Drop)]
+#[derive(Clone, Copy)]
 pub struct Pointed {
     pub number: u8,
     pub rule: u8,

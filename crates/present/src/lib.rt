@@ -1,4 +1,6 @@
 // PRESENT (CHES 2007; ISO/IEC 29192-2): a block encrypted or decrypted by tables, with the key schedule on the fly, and the public calls on one block.
+#![tactic(auto)]
+
 ghost use Rattle.std.specs.Prelude.{◌≡◌, true, map, ◌*◌, ◌+◌, ◌<◌, ◌≤◌, get_or, length};
 ghost use Rattle.std.specs.Int.Bits.{bit_xor};
 ghost use Rattle.octets.specs.Bytes.{be, number};

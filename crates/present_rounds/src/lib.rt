@@ -1,4 +1,6 @@
 // The layers of a round of PRESENT (CHES 2007; ISO/IEC 29192-2), by tables.
+#![tactic(auto)]
+
 mod tables;
 
 ghost use Rattle.std.specs.Prelude.{◌≡◌, ◌<◌, get_or};

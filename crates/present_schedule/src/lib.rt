@@ -1,11 +1,13 @@
 // The key schedules of PRESENT, for 80 and for 128 bits.
+#![tactic(auto)]
+
 ghost use Rattle.std.specs.Prelude.{◌≡◌, ◌<◌};
 ghost use Rattle.present_rounds.specs.Layers.{sbox};
 ghost use Rattle.present_rounds.specs.Tables.{gathers};
 ghost use Rattle.present_schedule.specs.Registers.{Fits, Updated, MovedKeys};
 
 // A key register of 128 bits, or of 80: the round key, and to its right the other 64 or 16 bits.
-#[derive(Drop)]
+#[derive(Clone, Copy)]
 pub struct Register {
     pub high: u64,
     pub low: u64,

@@ -1,11 +1,13 @@
 // One round of mCrypton (document 000, 2.1, 2.2 and 4.1) on the 4 by 4 array of nibbles, held as its four row words.
+#![tactic(auto)]
+
 ghost use Rattle.std.specs.Prelude.{◌≡◌, ◌+◌, ◌*◌, ◌<◌};
 ghost use Rattle.std.specs.Int.Bits.{bit_and};
 ghost use Rattle.rounds.specs.Word.{rotate as rotated, row, nibble as nibble_of, xor4};
 ghost use Rattle.rounds.specs.Array.{sboxes, sbox, offset, opposite as opposite_of, mask as mask_of, cell, γ, π, τ, σ, φ, nibble_round, inverse_round, tables, entry, word_row, word_round};
 ghost use Rattle.rounds.specs.declared.Direction.TheVariants.{Encrypt, Decrypt};
 
-#[derive(Drop)]
+#[derive(Clone, Copy)]
 pub enum Direction {
     Encrypt,
     Decrypt,

@@ -1,4 +1,6 @@
 // The running order of a day: the captions on show, as lines of text.
+#![tactic(auto)]
+
 ghost use Rattle.std.specs.Prelude.{◌≡◌, map, ◌+◌, ◌%◌, ◌≤◌, ◌<◌, length, take};
 ghost use Rattle.layout.specs.Shape.{SheetOf, SlotIn};
 ghost use Rattle.terms.specs.Terms.{opening};
@@ -13,7 +15,7 @@ ghost use Rattle.running_order.specs.Inner.{Holds, with_slot, Carry, OpenDays};
 use calendar::DayAnswer;
 use layout::Shape;
 
-#[derive(Drop)]
+#[derive(Clone, Copy)]
 pub enum OrderAnswer {
     Put(u16),
     WrongSpan,

@@ -1,4 +1,6 @@
 // The key schedule of mCrypton (document 000, 2.3): a register that is stepped forward or backward. No round key is stored.
+#![tactic(auto)]
+
 ghost use Rattle.std.specs.Prelude.{◌≡◌, ◌*◌, ◌<◌};
 ghost use Rattle.std.specs.Int.Bits.{bit_xor};
 ghost use Rattle.rounds.specs.Array.{sboxes};
@@ -6,7 +8,7 @@ ghost use Rattle.rounds.specs.Word.{nibble};
 ghost use Rattle.schedule.specs.Schedule.{forward as forward_of, backward as backward_of, sub_word, last_word, round_key, back_start};
 
 // A key register: up to eight 16-bit words, the word count and the round.
-#[derive(Drop)]
+#[derive(Clone, Copy)]
 pub struct Register {
     pub words: [u16; 8],
     pub count: usize,

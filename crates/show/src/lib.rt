@@ -1,4 +1,6 @@
 // What the programs that print vectors share: inputs by a rule, and bytes as hex digits.
+#![tactic(auto)]
+
 ghost use Rattle.std.specs.Prelude.{◌≡◌, ◌%◌, ◌<◌, length};
 ghost use Rattle.show.specs.Pattern.{patterned};
 

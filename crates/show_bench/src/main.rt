@@ -1,5 +1,7 @@
 // Prints, for each round, a key, an array and the block that the bench finds for it: what the second program prints as `vectors bench`.
 // The array is made anew from that block, round by round, by a path number that is another for each round.
+#![tactic(auto)]
+
 ghost use Rattle.std.specs.Prelude.{◌≡◌, ◌<◌};
 ghost use Rattle.rounds.specs.Array.{tables};
 

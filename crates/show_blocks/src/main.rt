@@ -1,4 +1,6 @@
 // Prints keys, blocks, and the blocks encrypted and decrypted by mixed paths: what the second program prints as `vectors blocks`.
+#![tactic(auto)]
+
 ghost use Rattle.std.specs.Prelude.{◌<◌};
 
 // The line of a key and the block that s chooses.

@@ -1,4 +1,6 @@
 // Prints texts of n blocks encrypted and decrypted by CBC: what the second program prints as `vectors cbc`.
+#![tactic(auto)]
+
 ghost use Rattle.std.specs.Prelude.{◌≡◌, ◌*◌, ◌≤◌, length};
 
 // A text, or a dash where it is empty.

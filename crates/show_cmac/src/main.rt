@@ -1,4 +1,6 @@
 // Prints checks of messages of several lengths: what the second program prints as `vectors cmac`.
+#![tactic(auto)]
+
 ghost use Rattle.std.specs.Prelude.{◌≤◌, length};
 
 // The line of the key and the message of as many bytes as key and message have; the message's length chooses the bytes.

@@ -1,4 +1,6 @@
 // Prints calls on sheets of 3 slots, what each slot reads as, and the listings: what the second program prints as `vectors sheet`.
+#![tactic(auto)]
+
 ghost use Rattle.std.specs.Prelude.{◌≤◌, ◌<◌, length};
 
 use captions::Answer;

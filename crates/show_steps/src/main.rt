@@ -1,4 +1,6 @@
 // Prints L, K1, K2, C_0 to C_n and T of CMAC for messages of several lengths: what the second program prints as `vectors steps`.
+#![tactic(auto)]
+
 ghost use Rattle.std.specs.Prelude.{◌≡◌, ◌++◌, ◌≤◌, length};
 ghost use Rattle.octets.specs.Bytes.{zeros};
 ghost use Rattle.cipher.specs.Key.{encrypted};

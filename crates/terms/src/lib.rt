@@ -1,4 +1,6 @@
 // The term sheet of a caption sheet: the test that it fits n slots, a slot's opening and closing day, and whether it is on show.
+#![tactic(auto)]
+
 ghost use Rattle.std.specs.Prelude.{◌≡◌, ◌&&◌, ◌+◌, ◌<◌};
 ghost use Rattle.octets.specs.Bytes.{all_below};
 ghost use Rattle.terms.specs.Terms.{opening, closing, fit_terms, on_show};

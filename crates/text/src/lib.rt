@@ -1,4 +1,6 @@
 // UTF-8 of RFC 3629: whether bytes are well-formed text, and where they break.
+#![tactic(auto)]
+
 ghost use Rattle.std.specs.Prelude.{◌≡◌, true, ◌+◌, ◌≤◌, ◌<◌, length, get_or};
 ghost use Rattle.text.specs.Grammar.{◌to◌, inside, tail, well_formed};
 ghost use Rattle.text.specs.Place.{broken_at};

@@ -1,4 +1,6 @@
 // The tests of each call on a sheet, in the order of its table, and the leaves that they are made of.
+#![tactic(auto)]
+
 ghost use Rattle.std.specs.Prelude.{◌≡◌, true, ◌&&◌, [], ◌∷◌, ◌≤◌, ◌<◌, eqb, length};
 ghost use Rattle.layout.specs.Layout.{new_edition, edition_of, key_class, sheet_size, slot_count, fit};
 ghost use Rattle.layout.specs.Shape.{FitSlot};
