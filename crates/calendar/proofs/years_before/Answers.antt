@@ -1,0 +1,10 @@
+-- `calendar::years_before` meets its contract.
+use borrow.Author.Rules.{rules}
+use Rattle.calendar.proofs.Ways.{early_years, late_years}
+use Rattle.calendar.proofs.years_before.Goals as goal
+
+pub returns-then-month-le2 : goal.returns-then-month-le2
+returns-then-month-le2 c = search (early_years, rules)
+
+pub returns : goal.returns
+returns c = search (late_years, rules)

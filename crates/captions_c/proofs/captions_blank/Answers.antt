@@ -1,0 +1,6 @@
+use mathlib.Core.Path.{◌∙◌, ap}
+use Rattle.captions_c.specs.Answer.{plain}
+use Rattle.captions_c.proofs.captions_blank.Goals as goal
+
+pub returns : goal.returns
+returns c = c.sheet_answer.ensures _ ∙ ap plain c.blank-a.ensures

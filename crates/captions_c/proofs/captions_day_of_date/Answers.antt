@@ -1,0 +1,5 @@
+use mathlib.Core.Path.{◌∙◌}
+use Rattle.captions_c.proofs.captions_day_of_date.Goals as goal
+
+pub returns : goal.returns
+returns c = c.day_answer.ensures ∙ c.day_of_date-a.ensures

@@ -1,0 +1,5 @@
+use mathlib.Core.Path.{◌∙◌}
+use Rattle.captions_c.proofs.captions_present_decrypt_block.Goals as goal
+
+pub returns : goal.returns
+returns c = c.block_answer.ensures _ ∙ c.decrypt_block-a.ensures

@@ -1,0 +1,5 @@
+use Rattle.captions_c.proofs.Crossing.{crosses_pointed}
+use Rattle.captions_c.proofs.captions_write.Goals as goal
+
+pub returns : goal.returns
+returns c = crosses_pointed _ _ _ _ c.answer_pointed.ensures c.write-a.ensures

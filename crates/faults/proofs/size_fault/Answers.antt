@@ -1,0 +1,18 @@
+-- `faults::size_fault` meets its contract.
+use borrow.Author.Rules.{rules}
+use borrow.Author.Tests.{not-true, not-false}
+use Rattle.layout.proofs.Fits.{header_inside, sheet_of}
+use Rattle.faults.proofs.Header.{size_wrong, size_right}
+use Rattle.faults.proofs.size_fault.Goals as goal
+
+pub returns-then-not-fit_size : goal.returns-then-not-fit_size
+returns-then-not-fit_size c = search (size_wrong, not-true)
+
+pub sheet_shape-requires : goal.sheet_shape-requires
+sheet_shape-requires c = search (header_inside, not-false)
+
+pub slots_fault-requires : goal.slots_fault-requires
+slots_fault-requires c = (search (sheet_of, not-false), search rules)
+
+pub returns : goal.returns
+returns c = search (size_right, not-false)

@@ -1,0 +1,24 @@
+-- `layout::blank_slot` meets its contract.
+use borrow.Author.Rules.{rules}
+use borrow.Author.Tests.{not-true, not-false}
+use Rattle.layout.specs.Layout.{sheet_size, mark_at, field_at}
+use Rattle.layout.proofs.Slots.{blank_no, blank_field}
+use Rattle.layout.proofs.blank_slot.Goals as goal
+
+pub overflow_add-a : goal.overflow_add-a
+overflow_add-a c = unfold sheet_size mark_at in search rules
+
+pub slice_bounds-all_zero-end : goal.slice_bounds-all_zero-end
+slice_bounds-all_zero-end c = unfold sheet_size mark_at in search rules
+
+pub returns-then-not-all_zero : goal.returns-then-not-all_zero
+returns-then-not-all_zero c = search (blank_no, not-true)
+
+pub overflow_add-b : goal.overflow_add-b
+overflow_add-b c = unfold sheet_size field_at in search rules
+
+pub slice_bounds-all_zero-end-2 : goal.slice_bounds-all_zero-end-2
+slice_bounds-all_zero-end-2 c = unfold sheet_size field_at in search rules
+
+pub returns : goal.returns
+returns c = search (blank_field, not-false)

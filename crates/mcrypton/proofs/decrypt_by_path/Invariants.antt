@@ -1,0 +1,14 @@
+-- `mcrypton::decrypt_by_path` meets its contract. The loop's invariant: what remains after r rounds is what remained at its start.
+use mathlib.Core.Path.{◌≡◌}
+use Prim.Native.Nat.{◌+◌, ◌-◌, ◌≤◌}
+use Rattle.rounds.specs.Array.{φ}
+use Rattle.rounds.specs.declared.Direction.TheVariants.{Decrypt}
+use Rattle.schedule.specs.Schedule.{backward, round_key}
+use Rattle.mcrypton.proofs.Remaining.{remaining}
+use Rattle.mcrypton.proofs.decrypt_by_path.Given as goal
+
+abbrev pub invariant-loop-r : goal.invariant-loop-r
+invariant-loop-r l = (l.r ≤ 12) × (l.v.round + l.r ≡ 12) × (remaining Decrypt l.p backward (λ u. φ (round_key u)) 12 0 l.initial.v l.initial.a ≡ remaining Decrypt l.p backward (λ u. φ (round_key u)) (12 - l.r) l.r l.v l.a)
+
+abbrev pub decreases-loop-r : goal.decreases-loop-r
+decreases-loop-r l = 12 - l.r

@@ -1,0 +1,18 @@
+-- `modes::cmac` meets its contract.
+use borrow.Author.Tests.{not-true, not-false}
+use borrow.Author.Rules.{rules}
+use Rattle.modes.proofs.Authentication.{no_block_first}
+use Rattle.modes.proofs.Answers.{refused_key, refused_span, accepted}
+use Rattle.modes.proofs.cmac.Goals as goal
+
+pub returns-then-not-key_length : goal.returns-then-not-key_length
+returns-then-not-key_length c = search (refused_key, not-true)
+
+pub returns-then-out-ne8 : goal.returns-then-out-ne8
+returns-then-out-ne8 c = search (refused_span, not-false)
+
+pub mac-c-requires : goal.mac-c-requires
+mac-c-requires c = search (no_block_first, rules)
+
+pub returns : goal.returns
+returns c = search (accepted, not-false, rules)

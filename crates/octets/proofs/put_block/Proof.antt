@@ -1,7 +1,0 @@
-use borrow.Author.Rules.{rules}
-use Rattle.octets.proofs.BlockCalls.{stored}
-use Rattle.octets.proofs.put_block.Statement.{statement}
-use Rattle.octets.proofs.put_block.Tie as tie
-
-pub put_block_spec : {M : Type 1} → statement M
-put_block_spec = tie.close (tie.spec (λ c. search rules) (λ c κs. search rules) (λ c. search rules) (λ c. search (stored, rules)))

@@ -1,0 +1,25 @@
+use Rattle.schedule.specs.Schedule.{constants, register_t}
+use Rattle.schedule.proofs.Registers.{constant_lt}
+use Rattle.schedule.proofs.Keys.{round_key_is}
+use borrow.Author.Rules.{rules}
+use Rattle.schedule.proofs.Register.round_key.Goals as goal
+
+pub t_nibble-requires : goal.t_nibble-requires
+unfolding constants
+t_nibble-requires c = (c.requires.1, constant_lt c.args.self.round c.requires.0, search rules)
+
+pub t_nibble-requires-2 : goal.t_nibble-requires-2
+unfolding constants
+t_nibble-requires-2 c = (c.requires.1, constant_lt c.args.self.round c.requires.0, search rules)
+
+pub t_nibble-requires-3 : goal.t_nibble-requires-3
+unfolding constants
+t_nibble-requires-3 c = (c.requires.1, constant_lt c.args.self.round c.requires.0, search rules)
+
+pub t_nibble-requires-4 : goal.t_nibble-requires-4
+unfolding constants
+t_nibble-requires-4 c = (c.requires.1, constant_lt c.args.self.round c.requires.0, search rules)
+
+pub returns : goal.returns
+unfolding register_t constants
+returns c = round_key_is c.args.self c.t_nibble.ensures.0 c.t_nibble-2.ensures.0 c.t_nibble-3.ensures.0 c.last.ensures c.t_nibble-4.ensures.0

@@ -1,0 +1,12 @@
+use borrow.Author.Rules.{rules}
+use Rattle.sheet.proofs.Calls.{blank_refused, blank_size, blank_count, blank_class, blank_made}
+use Rattle.sheet.proofs.blank.Goals as goal
+
+pub returns-in-Refuse : goal.returns-in-Refuse
+returns-in-Refuse c = search (blank_refused, rules)
+
+pub put_blank-requires : goal.put_blank-requires
+put_blank-requires c = (search (blank_size, rules), (search (blank_count, rules), search (blank_class, rules)))
+
+pub returns : goal.returns
+returns c = search (blank_made, rules)

@@ -1,0 +1,13 @@
+-- `part` hands `chain_next` what it requires. The loop's invariant: c is C_j.
+use borrow.Author.Rules.{rules}
+use Rattle.modes.proofs.Authentication.{block_inside, block_in_part, chain_again, chain_end}
+use Rattle.show_steps.proofs.part.Goals as goal
+
+pub block_at-requires : goal.block_at-requires
+block_at-requires c = search (block_inside, rules)
+
+pub chain_next-next-requires : goal.chain_next-next-requires
+chain_next-next-requires c = ((search rules, search (block_in_part, rules)), search (chain_again, rules))
+
+pub returns : goal.returns
+returns c = search (chain_end, rules)

@@ -1,0 +1,15 @@
+use borrow.Author.Tests.{not-true, not-false}
+use Rattle.verdicts.proofs.Verdicts.{wrong_sealing, wrong_checking, lengths_same, lengths_differ}
+use Rattle.verdicts.proofs.wrong_keys.Goals as goal
+
+pub returns-then-not-sheet_key_length : goal.returns-then-not-sheet_key_length
+returns-then-not-sheet_key_length c = search (wrong_sealing, not-true)
+
+pub returns-then-not-sheet_key_length-2 : goal.returns-then-not-sheet_key_length-2
+returns-then-not-sheet_key_length-2 c = search (wrong_checking, not-true, not-false)
+
+pub returns-then-sealing-checking : goal.returns-then-sealing-checking
+returns-then-sealing-checking c = search (lengths_same, not-false)
+
+pub returns : goal.returns
+returns c = search (lengths_differ, not-false)
