@@ -1,13 +1,13 @@
 -- The laws of the nibble array and of γ, π, τ, σ and φ.
-use mathlib.Core.Path.{◌≡◌, refl, sym, ap, ap₂, ◌∙◌, subst}
+use mathlib.Core.Path.{◌≡◌, refl, sym, ap, ap₂, ◌∙◌}
 use mathlib.Core.List.{List, [], ◌∷◌}
-use Prim.Native.Nat.{ℕ, zero, suc, ◌+◌, ◌*◌, ◌-◌, ◌/◌, ◌%◌, ◌^◌, ◌≤◌, ◌<◌}
-use native.Mathlib.Nat.{add_comm, mod-eq_of_lt, div-one, div-add-mod', lt_of_le_of_lt, not-suc-le-zero, le_of_suc-le-suc}
+use Prim.Native.Nat.{ℕ, ◌+◌, ◌*◌, ◌-◌, ◌/◌, ◌%◌, ◌^◌, ◌<◌}
+use native.Mathlib.Nat.{add_comm, mod-eq_of_lt, div-one, div-add-mod', lt_of_le_of_lt}
 use native.Mathlib.Omega.{arith}
 use lib.Bits.{bit_and, bit_xor, xor_shr, xor_mod, xor_lt, and_le_l, xor_zero_r}
 use lib.Pow.{shr-shr}
-use lib.Dec.{T, lit<, eqb, ltb, ltb→lt}
-use lib.ListN.{get_or, length}
+use lib.Dec.{lit<, eqb, ltb, ltb→lt}
+use lib.ListN.{get_or}
 use Rattle.rounds.specs.Word.{row, nibble, xor4}
 use Rattle.octets.specs.Bytes.{if◌then◌else◌}
 use Rattle.rounds.specs.Array.{Block, words, array, cell, sboxes, sbox, offset, opposite, mask, γ, π, τ, σ, φ, nibble_round}

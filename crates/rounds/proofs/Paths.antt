@@ -7,7 +7,7 @@ use lib.Bits.{bit_and, bit_xor, xor_block, xor_lt}
 use lib.Dec.{lit<}
 use lib.ListN.{get_or}
 use Rattle.octets.proofs.Test.{agree2}
-use Rattle.rounds.specs.Word.{rotate1, rotate, row, nibble, xor4}
+use Rattle.rounds.specs.Word.{rotate1, rotate, row, xor4}
 use Rattle.rounds.specs.Array.{cell, sboxes, sbox, offset, mask, γ, π, τ, σ, nibble_round, tables, turned, entry, word_row, word_round}
 use Rattle.rounds.specs.Lookup.{first_mask, rule_entry, Lookup}
 use Rattle.rounds.specs.declared.Direction.{Direction}

@@ -1,19 +1,18 @@
 -- What the functions of a round hand back, one law for each way out.
-use mathlib.Core.Path.{◌≡◌, refl, sym, ap, ap₂, ◌∙◌, subst}
+use mathlib.Core.Path.{◌≡◌, sym, ap, ap₂, ◌∙◌, subst}
 use mathlib.Core.List.{List, [], ◌∷◌}
 use Prim.Native.Nat.{ℕ, zero, suc, ◌+◌, ◌*◌, ◌-◌, ◌/◌, ◌%◌, ◌^◌, ◌<◌}
 use native.Mathlib.Nat.{lt_of_le_of_lt}
 use native.Mathlib.Omega.{arith}
 use lib.Bits.{bit_and, bit_xor, xor_lt, and_le_l, and_shr, and_mod}
-use lib.Dec.{lit<}
 use lib.ListN.{get_or}
 use Rattle.octets.proofs.Test.{agree3}
 use Rattle.rounds.specs.Word.{rotate, row, nibble, xor4}
 use Rattle.rounds.specs.Array.{cell, sboxes, sbox, offset, mask, γ, φ}
 use Rattle.rounds.specs.declared.Direction.{Direction}
-use Rattle.rounds.proofs.Xor4.{cases4, xor4_ext, xor4_cycle}
+use Rattle.rounds.proofs.Xor4.{xor4_ext, xor4_cycle}
 use Rattle.rounds.proofs.Rotation.{rotate_lt, rotate_add, shift_four}
-use Rattle.rounds.proofs.Blocks.{nibble_lt, nibble_row, row_ext, row_nibble, sbox_lt, nibble_xor, masked_lt, φ_rows}
+use Rattle.rounds.proofs.Blocks.{nibble_lt, nibble_row, row_ext, row_nibble, sbox_lt, nibble_xor, φ_rows}
 
 pub sub_is : {t : List (List ℕ)} {r : ℕ} (s x : ℕ) → t ≡ sboxes → x < 16 → r ≡ get_or (get_or t (s % 4) []) x 0 → (r ≡ sbox s x) × (r < 16)
 unfolding sbox

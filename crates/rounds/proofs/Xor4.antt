@@ -1,11 +1,11 @@
 -- Laws of the exclusive or of four.
-use mathlib.Core.Path.{◌≡◌, refl, sym, ap, ap₂, ◌∙◌}
+use mathlib.Core.Path.{◌≡◌, refl, ap, ap₂, ◌∙◌}
 use Prim.Native.Nat.{ℕ, zero, suc, ◌+◌, ◌%◌, ◌<◌}
 use native.Mathlib.Omega.{arith}
 use lib.Bits.{bit_and, bit_xor, xor_comm}
 use lib.Dec.{lit<}
 use Rattle.rounds.specs.Word.{xor4}
-use Rattle.octets.proofs.Xor.{and_xor, xor_assoc, xor_middle}
+use Rattle.octets.proofs.Xor.{and_xor, xor_middle}
 
 -- the four indices
 pub cases4 : (P : ℕ → Type 0) → P 0 → P 1 → P 2 → P 3 → (k : ℕ) → k < 4 → P k

@@ -1,6 +1,6 @@
 -- `cipher::field_blocks` meets its contract. The loop's invariant: what remains is what there was to do.
 use mathlib.Core.Path.{sym, ◌∙◌}
-use mathlib.Core.List.{map-id}
+use mathlib.Core.List.{[], map-id}
 use native.Mathlib.Omega.{arith}
 use Rattle.octets.proofs.Each.{each_next, each_all}
 use Rattle.cipher.specs.Field.{blocks}

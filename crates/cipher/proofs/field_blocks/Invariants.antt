@@ -1,4 +1,5 @@
 -- `cipher::field_blocks` meets its contract. The loop's invariant: what remains is what there was to do.
+use mathlib.Core.List.{[]}
 use mathlib.Core.Path.{◌≡◌}
 use Prim.Native.Nat.{◌≤◌, ◌-◌}
 use lib.ListN.{length}

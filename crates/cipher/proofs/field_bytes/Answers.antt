@@ -1,4 +1,5 @@
 -- `cipher::field_bytes` meets its contract. The loop's invariant: what remains is what there was to do.
+use mathlib.Core.List.{[]}
 use mathlib.Core.Path.{sym, ◌∙◌}
 use Rattle.mcrypton.specs.Bytes.{bytes_of}
 use Rattle.octets.proofs.Each.{each_none, each_next, each_all}

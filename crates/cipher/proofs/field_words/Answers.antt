@@ -1,4 +1,5 @@
 -- `cipher::field_words` meets its contract. The loop's invariant: what remains is what there was to do.
+use mathlib.Core.List.{[]}
 use mathlib.Core.Path.{sym, ap, ◌∙◌}
 use native.Mathlib.Omega.{arith}
 use Rattle.mcrypton.specs.Bytes.{words_of}

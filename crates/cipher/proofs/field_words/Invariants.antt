@@ -1,6 +1,6 @@
 -- `cipher::field_words` meets its contract. The loop's invariant: what remains is what there was to do.
 use mathlib.Core.Path.{◌≡◌}
-use mathlib.Core.List.{map}
+use mathlib.Core.List.{[], map}
 use Prim.Native.Nat.{◌≤◌, ◌-◌}
 use lib.ListN.{length}
 use Rattle.mcrypton.specs.Bytes.{words_of}

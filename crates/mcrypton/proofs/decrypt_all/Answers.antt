@@ -1,6 +1,6 @@
 -- `mcrypton::decrypt_all` meets its contract. The loop's invariant: what remains of the arrays after r rounds is what remained at its start.
 use mathlib.Core.Path.{◌≡◌, refl, ap, ◌∙◌}
-use Prim.Native.Nat.{◌+◌}
+use Prim.Native.Nat.{ℕ, ◌+◌, ◌<◌}
 use native.Mathlib.Omega.{arith}
 use lib.ListN.{length, length-map}
 use Rattle.rounds.specs.Array.{φ}
@@ -12,9 +12,9 @@ use Rattle.mcrypton.proofs.Each.{each_round, each_ended}
 use borrow.Author.Rules.{rules}
 use Rattle.mcrypton.proofs.decrypt_all.Goals as goal
 
-next : (c : tie.After-backward invariant-loop decreases-loop) → c.backward.result.round + (c.before.before.loop.r + 1) ≡ 12
+next : (u v : Register) (r : ℕ) → u ≡ backward v → v.round + r ≡ 12 → r < 12 → u.round + (r + 1) ≡ 12
 unfolding backward
-next c = let e = ap (λ (x : Register). x.round) c.backward.ensures in omega (arith, e, c.before.before.loop.invariant.3, c.before.loop-test.true)
+next u v r e i l = let q = ap (λ (x : Register). x.round) e in omega (arith, q, i, l)
 
 pub round_key-requires : goal.round_key-requires
 round_key-requires c = (omega (arith, c.requires), c.sbox_tables-s.ensures)
@@ -27,7 +27,7 @@ pub backward-next-requires : goal.backward-next-requires
 backward-next-requires c = omega (arith, c.loop-r.invariant.3, c.loop-r-test.true)
 
 pub round_key-requires-in-loop-r : goal.round_key-requires-in-loop-r
-round_key-requires-in-loop-r c = (omega (arith, next c), c.loop-r.invariant.0)
+round_key-requires-in-loop-r c = (omega (arith, next _ _ c.loop-r.r c.backward-next.ensures c.loop-r.invariant.3 c.loop-r-test.true), c.loop-r.invariant.0)
 
 pub round_all-requires : goal.round_all-requires
 round_all-requires c = c.loop-r.invariant.1
@@ -35,13 +35,13 @@ round_all-requires c = c.loop-r.invariant.1
 pub loop-r-preserved : goal.loop-r-preserved
 loop-r-preserved c =
     let l = c.loop-r in
-    (l.invariant.0, l.invariant.1, search rules, next c, l.invariant.4 ∙ each_round Decrypt 0 backward (λ u. φ (round_key u)) l.r _ l.a c.loop-r-test.true c.backward-next.ensures (c.phi-in-loop-r.ensures ∙ ap φ c.round_key-in-loop-r.ensures) c.round_all.ensures)
-
-pub shape_of-a : goal.shape_of-a
-shape_of-a c = let a = c.args in ap length (returns c) ∙ length-map a.a.now (decrypt_from 0 a.u)
+    (l.invariant.0, l.invariant.1, search rules, next _ _ c.loop-r.r c.backward-next.ensures c.loop-r.invariant.3 c.loop-r-test.true, l.invariant.4 ∙ each_round Decrypt 0 backward (λ u. φ (round_key u)) l.r _ l.a c.loop-r-test.true c.backward-next.ensures (c.phi-in-loop-r.ensures ∙ ap φ c.round_key-in-loop-r.ensures) c.round_all.ensures)
 
 pub returns : goal.returns
 unfolding decrypt_from
 returns c =
     let b = c.args.a.now in
     each_ended Decrypt 0 backward (λ u. φ (round_key u)) c.loop-r.r _ _ b c.loop-r.a c.loop-r-test.false c.loop-r.invariant.4 (c.phi.ensures ∙ ap φ c.round_key.ensures) c.sigma_all.ensures c.phi_all.ensures
+
+pub shape_of-a : goal.shape_of-a
+shape_of-a c = let a = c.args in ap length (returns c) ∙ length-map a.a.now (decrypt_from 0 a.u)

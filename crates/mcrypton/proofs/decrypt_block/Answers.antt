@@ -12,15 +12,15 @@ use Rattle.mcrypton.proofs.decrypt_block.Goals as goal
 
 pub returns-then-not-key_length : goal.returns-then-not-key_length
 unfolding decrypting
-returns-then-not-key_length c = search (wrong_key_lem, not-true)
+returns-then-not-key_length c = search (wrong_key_lem)
 
 pub returns-then-block-ne8 : goal.returns-then-block-ne8
 unfolding decrypting
-returns-then-block-ne8 c = search (wrong_block, not-false)
+returns-then-block-ne8 c = search (wrong_block)
 
 pub returns-then-out-ne8 : goal.returns-then-out-ne8
 unfolding decrypting
-returns-then-out-ne8 c = search (wrong_output, not-false)
+returns-then-out-ne8 c = search (wrong_output)
 
 pub decrypt_chosen-requires : goal.decrypt_chosen-requires
 unfolding back_start
@@ -30,5 +30,5 @@ pub returns : goal.returns
 unfolding decrypting decrypt_bytes decrypt_block decrypt_from decryption_key back_register
 returns c =
     let s = c.args in
-    accepted _ s.key.now s.block.now s.out.now _ _ c.key_length.ensures (not-false _ c.if-not-key_length.false) c.if-block-ne8.false c.if-out-ne8.false c.put_block.ensures
+    accepted _ s.key.now s.block.now s.out.now _ _ c.key_length.ensures c.if-not-key_length.false c.if-block-ne8.false c.if-out-ne8.false c.put_block.ensures
     (through_words (decrypt_from s.path) (back_start (start (words_of s.key.now))) _ s.block.now _ _ _ _ (c.backward_start.ensures ∙ ap back_start c.start.ensures) c.if-block-ne8.false c.block_at.ensures c.block_words-c.ensures c.decrypt_chosen.ensures c.block_bytes.ensures)

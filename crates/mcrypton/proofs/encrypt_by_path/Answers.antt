@@ -9,9 +9,9 @@ use Rattle.mcrypton.proofs.Remaining.{one_round, ended, encrypt_begun}
 use borrow.Author.Rules.{rules}
 use Rattle.mcrypton.proofs.encrypt_by_path.Goals as goal
 
-next : (c : tie.After-forward invariant-loop decreases-loop) → c.forward.result.round ≡ c.before.before.loop.r + 1
+next : (u v : Register) (r : ℕ) → u ≡ forward v → v.round ≡ r → u.round ≡ r + 1
 unfolding forward
-next c = ap (λ (x : Register). x.round) c.forward.ensures ∙ ap (λ (n : ℕ). n + 1) c.before.before.loop.invariant.1
+next u v r e i = ap (λ (x : Register). x.round) e ∙ ap (λ (n : ℕ). n + 1) i
 
 pub round_key-requires : goal.round_key-requires
 round_key-requires c = (omega (arith, c.requires), c.sbox_tables-s.ensures)
@@ -23,7 +23,7 @@ pub forward-next-requires : goal.forward-next-requires
 forward-next-requires c = omega arith
 
 pub round_key-requires-in-loop-r : goal.round_key-requires-in-loop-r
-round_key-requires-in-loop-r c = let e = next c in
+round_key-requires-in-loop-r c = let e = next _ _ c.loop-r.r c.forward-next.ensures c.loop-r.invariant.1 in
     (omega arith, c.sbox_tables-s.ensures)
 
 pub path_round-array-requires : goal.path_round-array-requires
@@ -32,7 +32,7 @@ path_round-array-requires c = (c.word_tables-t.ensures, search rules, search rul
 pub loop-r-preserved : goal.loop-r-preserved
 loop-r-preserved c = (
   omega arith,
-  next c,
+  next _ _ c.loop-r.r c.forward-next.ensures c.loop-r.invariant.1,
   c.loop-r.invariant.2 ∙ one_round Encrypt _ forward round_key c.loop-r.r _ _ (search rules) c.forward-next.ensures c.round_key-in-loop-r.ensures c.path_round-array.ensures,
 )
 

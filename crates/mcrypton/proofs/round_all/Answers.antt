@@ -1,4 +1,5 @@
 -- `mcrypton::round_all` meets its contract. The loop's invariant: what remains is what there was to do.
+use mathlib.Core.List.{[]}
 use mathlib.Core.Path.{sym, ◌∙◌}
 use Rattle.rounds.specs.Array.{word_round}
 use Rattle.rounds.specs.declared.Direction.TheVariants.{Decrypt}

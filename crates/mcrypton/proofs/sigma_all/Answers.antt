@@ -1,4 +1,5 @@
 -- `mcrypton::sigma_all` meets its contract. The loop's invariant: what remains is what there was to do.
+use mathlib.Core.List.{[]}
 use mathlib.Core.Path.{sym, ◌∙◌}
 use Rattle.rounds.specs.Array.{σ}
 use Rattle.octets.proofs.Each.{each_none, each_here, each_all}

@@ -1,7 +1,7 @@
 -- `mcrypton::sigma_all` meets its contract. The loop's invariant: what remains is what there was to do.
 use mathlib.Core.Path.{◌≡◌}
 use Prim.Native.Nat.{◌≤◌, ◌-◌}
-use mathlib.Core.List.{map}
+use mathlib.Core.List.{[], map}
 use lib.ListN.{length}
 use Rattle.rounds.specs.Array.{σ}
 use Rattle.octets.proofs.Each.{each}

@@ -5,7 +5,7 @@ use Rattle.octets.specs.Bytes.{put}
 use borrow.Author.Rules.{rules}
 use Rattle.modes.proofs.put_plain.Goals as goal
 
-sized : (c : tie.After-xor-block) → length c.xor_block.result ≡ 8
+sized : (c : goal.After-xor_block-plain) → length c.xor_block.result ≡ 8
 sized c = search rules
 
 pub returns : goal.returns

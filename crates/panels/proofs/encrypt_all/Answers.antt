@@ -8,7 +8,7 @@ use Rattle.mcrypton.specs.Registers.{encrypt_from}
 use Rattle.mcrypton.proofs.Each.{each_round, each_ended}
 use Rattle.panels.proofs.encrypt_all.Goals as goal
 
-next : (c : tie.After-forward invariant-loop decreases-loop) → c.forward.result.round ≡ c.before.before.loop.r + 1
+next : (c : goal.After-forward-next invariant-loop decreases-loop) → c.forward.result.round ≡ c.before.before.loop.r + 1
 unfolding forward
 next c = let e = ap (λ (x : Register). x.round) c.forward.ensures in omega (arith, e, c.before.before.loop.invariant.3)
 

@@ -1,4 +1,5 @@
 -- `panels::round_all` meets its contract. The loop's invariant: what remains is what there was to do.
+use mathlib.Core.List.{[]}
 use Rattle.std.proofs.Common.{sym, ◌∙◌, rules}
 use Rattle.rounds.specs.Array.{word_round}
 use Rattle.rounds.specs.declared.Direction.TheVariants.{Encrypt}

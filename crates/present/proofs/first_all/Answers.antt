@@ -1,6 +1,6 @@
 -- `present::first_all` meets its contract. The loop's invariant: what remains is what there was to do.
 use mathlib.Core.Path.{sym, ap, ◌∙◌}
-use mathlib.Core.List.{List}
+use mathlib.Core.List.{[], List}
 use Prim.Native.Nat.{ℕ}
 use lib.Bits.{bit_xor}
 use Rattle.octets.specs.Bytes.{number}

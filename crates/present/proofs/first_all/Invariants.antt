@@ -1,6 +1,6 @@
 -- `present::first_all` meets its contract. The loop's invariant: what remains is what there was to do.
 use mathlib.Core.Path.{◌≡◌}
-use mathlib.Core.List.{map}
+use mathlib.Core.List.{[], map}
 use Prim.Native.Nat.{◌-◌, ◌≤◌}
 use lib.ListN.{length}
 use Rattle.octets.proofs.Each.{each}

@@ -9,8 +9,8 @@ returns c =
       c.look_up-2.ensures,
       c.look_up-3.ensures,
       c.look_up-4.ensures,
-      c.nibble.ensures.0,
-      c.nibble-2.ensures.0,
-      c.nibble-3.ensures.0,
-      c.nibble-4.ensures.0,
+      c.nibble.ensures.value,
+      c.nibble-2.ensures.value,
+      c.nibble-3.ensures.value,
+      c.nibble-4.ensures.value,
     )

@@ -3,4 +3,4 @@ use Rattle.rounds.specs.Array.{sbox}
 use Rattle.rounds.proofs.sub_nibble.Goals as goal
 
 pub returns : goal.returns
-returns c = (c.sub.ensures.0 ∙ ap (sbox 0) c.nibble.ensures.0, c.sub.ensures.1)
+returns c = record { entry = c.sub.ensures.entry ∙ ap (sbox 0) c.nibble.ensures.value; small = c.sub.ensures.small }

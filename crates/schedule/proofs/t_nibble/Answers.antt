@@ -5,7 +5,7 @@ use Rattle.schedule.proofs.Keys.{t_nibble_is}
 use Rattle.schedule.proofs.t_nibble.Goals as goal
 
 pub returns : goal.returns
-returns c = let x = c.args in (
-  ap (λ (y : ℕ). bit_xor y x.c) c.sub_nibble.ensures.0 ∙ t_nibble_is x.w x.c x.i c.requires.1 c.requires.2,
-  xor_lt 4 _ _ c.sub_nibble.ensures.1 c.requires.1,
-)
+returns c = let x = c.args in record {
+  value = ap (λ (y : ℕ). bit_xor y x.c) c.sub_nibble.ensures.entry ∙ t_nibble_is x.w x.c x.i c.requires.1 c.requires.2;
+  small = xor_lt 4 _ _ c.sub_nibble.ensures.small c.requires.1;
+}

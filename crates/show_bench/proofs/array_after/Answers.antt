@@ -7,7 +7,7 @@ use Rattle.schedule.specs.declared.Register.{Register}
 use borrow.Author.Rules.{rules}
 use Rattle.show_bench.proofs.array_after.Goals as goal
 
-next : (c : tie.After-forward invariant-loop decreases-loop) → c.forward.result.round ≡ c.before.before.loop.i + 1
+next : (c : goal.After-forward-next invariant-loop decreases-loop) → c.forward.result.round ≡ c.before.before.loop.i + 1
 unfolding forward
 next c = ap (λ (x : Register). x.round) c.forward.ensures ∙ ap (λ (n : ℕ). n + 1) c.before.before.loop.invariant.1
 

@@ -4,7 +4,7 @@ use borrow.Author.Rules.{rules}
 use Rattle.modes.proofs.Authentication.{one_at_least, rest_inside, last_short, blocks_in_first, blocks_in_second, last_is}
 use Rattle.show_steps.proofs.steps.Goals as goal
 
-abbrev start : tie.After-block-count → tie.Start
+abbrev start : goal.After-block_count-n → goal.Start
 start c = c.before.before.before.before.before.before.before.before.before.before.before.before.before.before.before
 
 pub overflow_mul-a : goal.overflow_mul-a

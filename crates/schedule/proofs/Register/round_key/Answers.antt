@@ -22,4 +22,4 @@ t_nibble-requires-4 c = (c.requires.1, constant_lt c.args.self.round c.requires.
 
 pub returns : goal.returns
 unfolding register_t constants
-returns c = round_key_is c.args.self c.t_nibble.ensures.0 c.t_nibble-2.ensures.0 c.t_nibble-3.ensures.0 c.last.ensures c.t_nibble-4.ensures.0
+returns c = round_key_is c.args.self c.t_nibble.ensures.value c.t_nibble-2.ensures.value c.t_nibble-3.ensures.value c.last.ensures c.t_nibble-4.ensures.value
