@@ -7,7 +7,7 @@ use mathlib.Core.Logic.{◌↔◌, ◌⊎◌, inl, inr, ⊎_elim}
 use native.Mathlib.Decide.{dec_lt, dec_le}
 use native.Mathlib.Nat.{div-div-eq-div-mul}
 use native.Mathlib.Omega.{arith}
-use lib.Dec.{leb, ltb, lit≤, lit<}
+use lib.Dec.{ltb, lit≤, lit<}
 use lib.ListN.{length, get_or, drop}
 use borrow.Author.Tests.{le-leb, lt-leb, lt-ltb, le-ltb}
 use Rattle.octets.specs.Bytes.{if◌then◌else◌}
@@ -149,6 +149,7 @@ data Rows (P : List Range → Type 0) : List (List Range) → Type 0 where
 at_row : {P : List Range → Type 0} {r : List Range} {rows : List (List Range)} → Rows P rows → Memᴰ r rows → P r
 at_row {P} (row p ps) (Memᴰ.head e) = subst P (sym e) p
 at_row (row p ps) (Memᴰ.tail m) = at_row ps m
+at_row {P = P} {r = r} no_row x3 = elim x3 [ ]
 
 abbrev Spelled : List Range → Type 0
 Spelled form = (c : List ℕ) → Fits form c → Point c

@@ -1,15 +1,15 @@
 -- The test of a text decides the grammar.
 use Prim.Native.Nat.{ℕ, ◌≤◌}
 use mathlib.Core.Path.{◌≡◌, refl, sym, ap, ◌∙◌, subst}
-use mathlib.Core.Bool.{Bool, true, false, ◌&&◌, ◌||◌, false≢true}
+use mathlib.Core.Bool.{Bool, true, false, ◌||◌, false≢true}
 use mathlib.Core.List.Memᴰ
 use mathlib.Core.List.{List, [], ◌∷◌, ◌++◌, Memᴰ}
-use mathlib.Core.Logic.{◌↔◌, ◌⊎◌, ⊎_elim}
+use mathlib.Core.Logic.{◌↔◌, ⊎_elim}
 use lib.Dec.{leb}
 use borrow.Author.Tests.{leb-true, le-leb}
 use Rattle.octets.specs.Bytes.{if◌then◌else◌}
 use Rattle.octets.proofs.Clauses.{Reflects}
-use Rattle.octets.proofs.Bool.{and_left, and_right, and_both, not_both}
+use Rattle.octets.proofs.Bool.{and_left, and_right, and_both}
 use Rattle.text.specs.Grammar.{Range, ◌to◌, tail, forms, Fits, none, more, Utf8, empty, char, inside, after, some, meets, well_formed}
 
 pub inside_low : (low high x : ℕ) → inside (low to high) x ≡ true → low ≤ x

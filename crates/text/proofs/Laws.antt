@@ -1,14 +1,13 @@
 -- What holds of well-formed text.
-use Prim.Native.Nat.{ℕ, ◌+◌, ◌<◌}
+use Prim.Native.Nat.{ℕ, ◌<◌}
 use mathlib.Core.Path.{◌≡◌, refl, sym, ◌∙◌, subst}
-use mathlib.Core.List.{List, [], ◌++◌, append-nil}
+use mathlib.Core.List.{List, [], append-nil}
 use lib.ListN.{length, take}
 use lib.Seq.{take-length}
-use mathlib.Core.Logic.{◌↔◌}
 use native.Mathlib.Omega.{arith}
 use Rattle.text.specs.Grammar.{forms, inside, after, some, meets, well_formed, Utf8}
 use Rattle.text.specs.Encoding.{CodePoint, end, point, encode_one, encode}
-use Rattle.text.specs.Place.{GoesOn, BreaksAt, furthest, reached, broken_at}
+use Rattle.text.specs.Place.{BreaksAt, furthest, reached, broken_at}
 use Rattle.text.specs.Laws.{Texts, Encodings, Breaks, TextLaws}
 use Rattle.text.proofs.Grammar.{tested}
 use Rattle.text.proofs.Encoding.{exactly, only, points, bits_1, bits_2, bits_3, bits_4, in_a_row}

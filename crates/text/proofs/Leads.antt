@@ -8,7 +8,7 @@ use lib.Dec.{T, eqb, ltb}
 use borrow.Author.Tests.{eqb-true, ne_eqb, lt-ltb, le-ltb}
 use Rattle.octets.specs.Bytes.{if◌then◌else◌}
 use Rattle.octets.proofs.Bool.{and_left, and_right}
-use Rattle.octets.proofs.Test.{every, below}
+use Rattle.octets.proofs.Test.{below}
 use Rattle.text.specs.Grammar.{Range, ◌to◌, tail, forms, inside, after}
 use Rattle.text.specs.Steps.{following, second_low, second_high, second, ahead}
 

@@ -9,12 +9,11 @@ use native.Mathlib.Omega.{arith}
 use lib.Bits.{bit_or, or_add_and, and_le_l, and_le_r}
 use lib.Dec.{leb, ltb, eqb}
 use lib.ListN.{length, get_or, drop, replicate, length-drop, drop_of_length-le, length-replicate}
-use borrow.Author.Tests.{le-leb, lt-leb, lt-ltb, le-ltb, eq-eqb, ne_eqb, ltb-true}
-use Rattle.octets.specs.Bytes.{if◌then◌else◌}
+use borrow.Author.Tests.{le-leb, lt-leb, eq-eqb, ne_eqb, ltb-true}
 use Rattle.octets.proofs.Bool.{and_false_left, and_false_right, if_true, if_false}
 use Rattle.octets.proofs.Parts.{drop_next}
 use Rattle.text.specs.Grammar.{Range, ◌to◌, tail, forms, inside, after, some, meets, well_formed}
-use Rattle.text.specs.Steps.{following, second_low, second_high, second, ahead, Passes, Rest, Character}
+use Rattle.text.specs.Steps.{following, second, ahead, Passes, Rest, Character}
 use Rattle.text.proofs.Leads.{begins_one, begins_none, begins_more, follows_none, follows_one, follows_two, follows_three, follows_above, after_E0, after_ED, after_F0, after_F4, second_tail}
 
 -- ---- a byte and a range

@@ -1,5 +1,5 @@
 -- What the inner functions ensure.
-use Rattle.std.specs.Prelude.{ℕ, zero, suc, ◌+◌, ◌≤◌, ◌<◌, ◌≡◌, Bool, true, false, ◌&&◌, List, [], ◌∷◌, eqb, ltb, length, drop, replicate}
+use Rattle.std.specs.Prelude.{ℕ, zero, suc, ◌+◌, ◌≤◌, ◌≡◌, Bool, true, false, ◌&&◌, List, [], ◌∷◌, eqb, ltb, length, drop, replicate}
 use Rattle.octets.specs.Bytes.{if◌then◌else◌}
 use Rattle.text.specs.Grammar.{Range, ◌to◌, tail, meets, well_formed}
 use Rattle.text.specs.Place.{reached}

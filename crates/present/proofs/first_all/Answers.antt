@@ -1,17 +1,13 @@
 -- `present::first_all` meets its contract. The loop's invariant: what remains is what there was to do.
 use mathlib.Core.Path.{sym, ap, ◌∙◌}
-use mathlib.Core.List.{[], List}
+use mathlib.Core.List.{[]}
 use Prim.Native.Nat.{ℕ}
 use lib.Bits.{bit_xor}
-use Rattle.octets.specs.Bytes.{number}
 use Rattle.octets.proofs.Each.{each_none, each_next, each_all}
 use Rattle.present_rounds.specs.Layers.{inverse_pLayer}
 use borrow.Author.Rules.{rules}
 use Rattle.present.proofs.first_all.Goals as goal
-
--- what becomes of a block x
-abbrev begun : ℕ → List ℕ → ℕ
-begun k x = bit_xor (inverse_pLayer (number x)) k
+use Rattle.present.proofs.first_all.Invariants.{begun}
 
 pub loop-i-init : goal.loop-i-init
 loop-i-init c = search (each_none, rules)

@@ -1,16 +1,10 @@
 -- `present::last_all` meets its contract. The loop's invariant: what remains is what there was to do.
 use mathlib.Core.Path.{sym, ap, ◌∙◌}
-use mathlib.Core.List.{List}
-use Prim.Native.Nat.{ℕ}
 use Rattle.octets.specs.Bytes.{be}
 use Rattle.octets.proofs.Each.{each_none, each_next, each_all}
-use Rattle.present_rounds.specs.Layers.{p_layer}
 use borrow.Author.Rules.{rules}
 use Rattle.present.proofs.last_all.Goals as goal
-
--- what becomes of a state s
-abbrev ended : ℕ → List ℕ
-ended s = be 8 (p_layer s)
+use Rattle.present.proofs.last_all.Invariants.{ended}
 
 pub loop-i-init : goal.loop-i-init
 loop-i-init c = search (each_none, rules)

@@ -3,13 +3,9 @@ use mathlib.Core.Path.{sym, ap, ◌∙◌}
 use Prim.Native.Nat.{ℕ}
 use lib.Bits.{bit_xor}
 use Rattle.octets.proofs.Each.{each_none, each_here, each_all}
-use Rattle.present_rounds.specs.Layers.{inverse_sBox_layer, inverse_pLayer}
 use borrow.Author.Rules.{rules}
 use Rattle.present.proofs.round_all.Goals as goal
-
--- what becomes of a state s
-abbrev turn : ℕ → ℕ → ℕ
-turn k s = bit_xor (inverse_pLayer (inverse_sBox_layer s)) k
+use Rattle.present.proofs.round_all.Invariants.{turn}
 
 pub loop-i-init : goal.loop-i-init
 loop-i-init c = search (each_none, rules)

@@ -19,7 +19,7 @@ pub returns-then-x-lt240 : goal.returns-then-x-lt240
 returns-then-x-lt240 c = search (three_broken, rules)
 
 pub returns-then-x-gt244 : goal.returns-then-x-gt244
-returns-then-x-gt244 c = search (above_first, c.shared_slice_known-1.given c.args.i, rules)
+returns-then-x-gt244 c = search (above_first, rules)
 
 pub returns-then-four : goal.returns-then-four
 returns-then-four c = search (four_whole, rules)
