@@ -2,14 +2,14 @@
 use mathlib.Core.Path.{sym, ◌∙◌}
 use mathlib.Core.List.{[], map-id}
 use native.Mathlib.Omega.{arith}
-use Rattle.octets.proofs.Each.{each_next, each_all}
+use Rattle.octets.proofs.Each.{each_none, each_next, each_all}
 use Rattle.cipher.specs.Field.{blocks}
 use Rattle.cipher.proofs.Field.{length_blocks, blocks_at}
 use borrow.Author.Rules.{rules}
 use Rattle.cipher.proofs.field_blocks.Goals as goal
 
 pub loop-i-init : goal.loop-i-init
-loop-i-init c = x) _ _ ∙ map-id _, search rules, search rules, search rules)
+loop-i-init c = (each_none [] (λ x. x) _ _ ∙ map-id _, search rules, search rules, search rules)
 
 pub loop-i-preserved : goal.loop-i-preserved
 loop-i-preserved c =

@@ -7,7 +7,7 @@ pub block_at-requires : goal.block_at-requires
 block_at-requires c = search (block_inside, rules)
 
 pub chain_next-next-requires : goal.chain_next-next-requires
-chain_next-next-requires c = ((search rules, search (block_in_part, rules)), search (chain_again, rules))
+chain_next-next-requires c = record { i_nonzero = (search rules, search (block_in_part, rules)); c_value = search (chain_again, rules) }
 
 pub returns : goal.returns
 returns c = search (chain_end, rules)

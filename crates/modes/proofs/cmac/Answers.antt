@@ -6,10 +6,10 @@ use Rattle.modes.proofs.Answers.{refused_key, refused_span, accepted}
 use Rattle.modes.proofs.cmac.Goals as goal
 
 pub returns-then-not-key_length : goal.returns-then-not-key_length
-returns-then-not-key_length c = search (refused_key, not-true)
+returns-then-not-key_length c = search (refused_key)
 
 pub returns-then-out-ne8 : goal.returns-then-out-ne8
-returns-then-out-ne8 c = search (refused_span, not-false)
+returns-then-out-ne8 c = search (refused_span)
 
 pub mac-c-requires : goal.mac-c-requires
 mac-c-requires c = search (no_block_first, rules)

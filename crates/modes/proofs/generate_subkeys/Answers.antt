@@ -4,4 +4,4 @@ use Rattle.modes.proofs.Subkeys.{L_is, K1_is, K2_is}
 use Rattle.modes.proofs.generate_subkeys.Goals as goal
 
 pub returns : goal.returns
-returns c = (search (L_is, rules), (search (K1_is, rules), search (K2_is, rules)))
+returns c = record { l = search (L_is, rules); k1 = search (K1_is, rules); k2 = search (K2_is, rules) }

@@ -18,16 +18,16 @@ pub last_block-last-requires : goal.last_block-last-requires
 last_block-last-requires c = search (last_short, rules)
 
 pub chain_part-c_h-requires : goal.chain_part-c_h-requires
-chain_part-c_h-requires c = (search (blocks_in_first, rules), c.chain_start-c0.ensures _ _)
+chain_part-c_h-requires c = record { blocks_in = search (blocks_in_first, rules); begin_value = c.chain_start-c0.ensures _ _ }
 
 pub overflow_sub-n : goal.overflow_sub-n
 overflow_sub-n c = search (one_at_least, rules)
 
 pub chain_part-c_before-requires : goal.chain_part-c_before-requires
-chain_part-c_before-requires c = (search (blocks_in_second, rules), search rules)
+chain_part-c_before-requires c = record { blocks_in = search (blocks_in_second, rules); begin_value = search rules }
 
 pub chain_next-requires : goal.chain_next-requires
-chain_next-requires c = ((search (one_at_least, rules), search (last_is, rules)), search rules)
+chain_next-requires c = record { i_nonzero = (search (one_at_least, rules), search (last_is, rules)); c_value = search rules }
 
 pub returns : goal.returns
 returns c = search (tag_is, rules)

@@ -5,8 +5,5 @@ use Rattle.octets.specs.Bytes.{put}
 use borrow.Author.Rules.{rules}
 use Rattle.modes.proofs.put_plain.Goals as goal
 
-sized : (c : goal.After-xor_block-plain) → length c.xor_block.result ≡ 8
-sized c = search rules
-
 pub returns : goal.returns
-returns c = (c.copy_part.ensures ∙ ap (put _ _) c.xor_block-plain.ensures, sym (ap length c.xor_block-plain.ensures) ∙ sized c)
+returns c = let sized : length c.xor_block-plain.result ≡ 8 = search rules in record { text = c.copy_part.ensures ∙ ap (put _ _) c.xor_block-plain.ensures; size = sym (ap length c.xor_block-plain.ensures) ∙ sized }
