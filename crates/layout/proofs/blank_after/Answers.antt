@@ -18,7 +18,7 @@ pub slice_bounds-all_zero-end : goal.slice_bounds-all_zero-end
 slice_bounds-all_zero-end c = unfold sheet_size mark_at in search rules
 
 pub returns-then-not-all_zero : goal.returns-then-not-all_zero
-returns-then-not-all_zero c = search (blank_check, not-true)
+returns-then-not-all_zero c = search (blank_check)
 
 pub overflow_add-b : goal.overflow_add-b
 overflow_add-b c = unfold sheet_size field_at in search rules
@@ -27,4 +27,4 @@ pub slice_bounds-all_zero-end-2 : goal.slice_bounds-all_zero-end-2
 slice_bounds-all_zero-end-2 c = unfold sheet_size field_at in search rules
 
 pub returns : goal.returns
-returns c = search (blank_rest, not-false)
+returns c = search (blank_rest)

@@ -8,7 +8,7 @@ pub class_rule-requires : goal.class_rule-requires
 class_rule-requires c = search header_long
 
 pub returns-then-not-class_rule : goal.returns-then-not-class_rule
-returns-then-not-class_rule c = search (rule_other, not-true)
+returns-then-not-class_rule c = search (rule_other)
 
 pub byte-edition-requires : goal.byte-edition-requires
 byte-edition-requires c = search header_byte
@@ -17,10 +17,10 @@ pub slice_bounds-all_zero-end : goal.slice_bounds-all_zero-end
 slice_bounds-all_zero-end c = search (two_long, rules)
 
 pub returns-then-edition-eq2 : goal.returns-then-edition-eq2
-returns-then-edition-eq2 c = search (rule_two, not-false)
+returns-then-edition-eq2 c = search (rule_two)
 
 pub returns-then-edition-eq3 : goal.returns-then-edition-eq3
-returns-then-edition-eq3 c = search (rule_three, not-false)
+returns-then-edition-eq3 c = search (rule_three)
 
 pub returns : goal.returns
-returns c = search (rule_one, not-false)
+returns c = search (rule_one)
