@@ -34,24 +34,26 @@ quiet_nothing (row e q) = rw e (quiet_nothing q)
 module _ {P : Fault → Type 0} where
   pub found : {n : ℕ} (rows : List (Row Fault)) → Ordered P n rows → (first_in rows ≡ Nothing) ⊎ P (first_in rows)
   unfolding first_in decided
-  found [] end = inl refl
-  found ((true gives f) ∷ rows) (row p l o) = inr (p refl)
-  found ((false gives f) ∷ rows) (row p l o) = found rows o
+  found {n = n} [] end = inl refl
+  found {n = n} ((true gives f) ∷ rows) (row p l o) = inr (p refl)
+  found {n = n} ((false gives f) ∷ rows) (row p l o) = found {n = order f} rows o
 
   above : {n : ℕ} {f : Fault} (rows : List (Row Fault)) → Ordered P n rows → Applies f rows → n ≤ order f
-  above ((t gives g) ∷ rows) (row p l o) (here e) = l
-  above ((t gives g) ∷ rows) (row p l o) (there a) = omega (arith, l, above rows o a)
+  above {n = n} {f = f} [] _ x = elim x [ ]
+  above {n = n} {f = f} ((t gives g) ∷ rows) (row p l o) (here e) = l
+  above {n = n} {f = f} ((t gives g) ∷ rows) (row p l o) (there a) = omega (arith, l, above {n = order g} {f = f} rows o a)
 
   pub lowest : {n : ℕ} {f : Fault} (rows : List (Row Fault)) → Ordered P n rows → Applies f rows → P (first_in rows) × (order (first_in rows) ≤ order f)
   unfolding first_in decided
-  lowest ((true gives g) ∷ rows) (row p l o) (here e) = (p refl, omega arith)
-  lowest ((true gives g) ∷ rows) (row p l o) (there a) = (p refl, above rows o a)
-  lowest ((false gives g) ∷ rows) (row p l o) (here e) = absurd (false≢true e)
-  lowest ((false gives g) ∷ rows) (row p l o) (there a) = lowest rows o a
+  lowest {n = n} {f = f} [] _ x = elim x [ ]
+  lowest {n = n} {f = f} ((true gives g) ∷ rows) (row p l o) (here e) = (p refl, omega arith)
+  lowest {n = n} {f = f} ((true gives g) ∷ rows) (row p l o) (there a) = (p refl, above rows o a)
+  lowest {n = n} {f = f} ((false gives g) ∷ rows) (row p l o) (here e) = absurd (false≢true e)
+  lowest {n = n} {f = f} ((false gives g) ∷ rows) (row p l o) (there a) = lowest {n = order g} {f = f} rows o a
 
   module _ (none : P Nothing → ⊥) where
     pub nothing_quiet : {n : ℕ} (rows : List (Row Fault)) → Ordered P n rows → first_in rows ≡ Nothing → Quiet rows
     unfolding first_in decided
-    nothing_quiet [] end h = end
-    nothing_quiet ((true gives f) ∷ rows) (row p l o) h = absurd (none (rw h at (p refl)))
-    nothing_quiet ((false gives f) ∷ rows) (row p l o) h = row refl (nothing_quiet rows o h)
+    nothing_quiet {n = n} [] end h = end
+    nothing_quiet {n = n} ((true gives f) ∷ rows) (row p l o) h = absurd (none (rw h at (p refl)))
+    nothing_quiet {n = n} ((false gives f) ∷ rows) (row p l o) h = row refl (nothing_quiet {n = order f} rows o h)

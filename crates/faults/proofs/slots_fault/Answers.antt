@@ -6,7 +6,7 @@ use Rattle.faults.proofs.Marks.{slot_unfit, slots_found, slots_next, slots_end}
 use Rattle.faults.proofs.slots_fault.Goals as goal
 
 pub fit_slot-requires : goal.fit_slot-requires
-fit_slot-requires c = (search (slot_of, rules), search rules)
+fit_slot-requires c = record { slot_in = search (slot_of, rules); w_value = search rules }
 
 pub mark_rule-r-requires : goal.mark_rule-r-requires
 mark_rule-r-requires c = (search (slot_of, rules), search rules, search (slot_unfit, not-true))
