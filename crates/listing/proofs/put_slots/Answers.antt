@@ -8,7 +8,7 @@ pub loop-i-init : goal.loop-i-init
 loop-i-init c = search (append_no_slots, rules)
 
 pub put_slot-next-requires : goal.put_slot-next-requires
-put_slot-next-requires c = (search (slot_of, rules), search rules)
+put_slot-next-requires c = record { slot_in = search (slot_of, rules); at_in_bounds = search rules }
 
 pub loop-i-preserved : goal.loop-i-preserved
 loop-i-preserved c = search (append_slot, rules)
