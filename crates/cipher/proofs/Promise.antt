@@ -3,29 +3,29 @@ use mathlib.Core.Path.{◌≡◌, refl, sym, ap, ◌∙◌, subst₂}
 use mathlib.Core.Bool.{Bool, true, false, ◌||◌}
 use mathlib.Core.List.{List, [], ◌∷◌}
 use mathlib.Core.Logic.{inl, inr}
-use Prim.Native.Nat.{ℕ, zero, suc, ◌+◌, ◌*◌, ◌/◌, ◌≤◌, ◌<◌}
+use Prim.Native.Nat.{ℕ, zero, suc, ◌*◌, ◌/◌, ◌≤◌, ◌<◌}
 use native.Mathlib.Omega.{arith}
 use lib.Dec.{eqb}
 use lib.ListN.{get_or, length}
 use borrow.Author.Tests.{eqb-true}
-use Rattle.octets.specs.Bytes.{if◌then◌else◌, Bytes}
+use Rattle.octets.specs.Bytes.{Bytes}
 use Rattle.rounds.specs.declared.Direction.TheVariants.{Encrypt, Decrypt}
 use Rattle.schedule.specs.Schedule.{eight_words, start, back_start, register, back_register, encryption_key, decryption_key}
 use Rattle.schedule.specs.declared.Register.{Register}
-use Rattle.mcrypton.specs.Cipher.{steps, encrypt_block, decrypt_block}
+use Rattle.mcrypton.specs.Cipher.{encrypt_block, decrypt_block}
 use Rattle.mcrypton.specs.Registers.{encrypt_from, decrypt_from}
 use Rattle.mcrypton.specs.Bytes.{key_length, words_of, bytes_of, encrypt_bytes, decrypt_bytes}
 use Rattle.mcrypton.proofs.Paths.{same_steps}
 use Rattle.mcrypton.proofs.WordsOf.{length_words, word_at}
 use Rattle.mcrypton.proofs.ByteBlocks.{length_bytes, bytes_bytes, block_encrypted, block_decrypted, decrypt_encrypt_bytes, encrypt_decrypt_bytes}
 use Rattle.octets.specs.Clauses.{OneOf}
-use Rattle.octets.specs.Block.{ByteBlock, Invertible}
+use Rattle.octets.specs.Block.{Invertible}
 use Rattle.present.specs.Bytes.{encrypt_bytes as present_encrypt, decrypt_bytes as present_decrypt}
 use Rattle.present.specs.Registers.{Spells}
 use Rattle.present.proofs.Held.{words_encrypt_80, words_encrypt_128, words_decrypt_80, words_decrypt_128}
 use Rattle.present.proofs.ByteBlocks.{present}
 use Rattle.cipher.specs.Key.{mcrypton_class, present_class, class_known, key_bytes, loaded, key_register, mcrypton_encrypted, mcrypton_decrypted, encrypted, decrypted, encrypt_by, decrypt_by}
-use Rattle.cipher.specs.Promise.{ClassKey, MeansMcrypton, MeansPresent, ClassCiphers, Promise}
+use Rattle.cipher.specs.Promise.{ClassKey, ClassCiphers, Promise}
 
 -- the register of a key that is loaded for the class of its length
 loaded_register : (k : List ℕ) → key_register (loaded (length k / 2) k) ≡ start (words_of k)

@@ -6,10 +6,9 @@ use mathlib.Core.List.{List, [], ◌∷◌, ◌++◌, append_assoc}
 use native.Mathlib.Decide.{dec_lt}
 use native.Mathlib.Omega.{arith}
 use borrow.Author.Tests.{le-leb, lt-leb}
-use lib.Dec.{leb}
-use lib.ListN.{length, get_or, drop, length-append, get_or-append}
+use lib.ListN.{length, get_or, drop, get_or-append}
 use Rattle.octets.specs.Bytes.{put}
-use Rattle.listing.specs.Listing.{decimal, digits, line, head_line, blank_line, written_line, slot_line, slot_lines, key_bits, listable, listing, listed}
+use Rattle.listing.specs.Listing.{decimal, line, head_line, blank_line, written_line, slot_line, slot_lines, key_bits, listable, listing, listed}
 use Rattle.listing.specs.Ascii.{ascii}
 use Rattle.cipher.specs.Key.{key_bytes}
 use Rattle.layout.specs.Layout.{edition_of, slots, key_class, last_write, mark, mark_number, mark_length, blank_slot}

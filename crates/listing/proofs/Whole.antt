@@ -14,7 +14,7 @@ use Rattle.octets.proofs.Bool.{and_right}
 use Rattle.octets.proofs.Parts.{length_put, part_put}
 use Rattle.cipher.specs.Key.{key_bytes}
 use Rattle.layout.specs.declared.Shape.{Shape}
-use Rattle.layout.specs.Layout.{slots, last_write, fit, edition_of}
+use Rattle.layout.specs.Layout.{last_write, fit, edition_of}
 use Rattle.layout.specs.Shape.{shape_of, SheetOf}
 use Rattle.layout.proofs.Fits.{Fits, fit_facts, fits_sheet, fits_header, fits_class_small}
 use Rattle.listing.specs.Ascii.{ascii}

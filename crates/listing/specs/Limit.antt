@@ -1,5 +1,5 @@
 -- The listing takes up to 53264 bytes (document 02, request 3): every sheet that meets the layout is listed, and nothing longer.
-use Rattle.std.specs.Prelude.{ℕ, ◌+◌, ◌*◌, ◌≤◌, ◌<◌, ◌≡◌, true, false, List, ◌⊎◌, length}
+use Rattle.std.specs.Prelude.{ℕ, ◌+◌, ◌*◌, ◌≤◌, ◌<◌, ◌≡◌, true, List, ◌⊎◌, length}
 use Rattle.layout.specs.Layout.{slots, edition_byte, fit}
 use Rattle.listing.specs.Ascii.{ascii}
 use Rattle.listing.specs.Listing.{listable, listing}
