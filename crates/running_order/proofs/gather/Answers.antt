@@ -8,7 +8,7 @@ pub loop-i-init : goal.loop-i-init
 loop-i-init c = search (gather_start, rules)
 
 pub gather_slot-n-requires : goal.gather_slot-n-requires
-gather_slot-n-requires c = (search (slot_of, rules), (search rules, (search (opens_early, rules), (search rules, search (gather_few, rules)))))
+gather_slot-n-requires c = record { slot_in = search (slot_of, rules); terms_of = search rules; i_bound = search (opens_early, rules); numbers_len = (search rules, search (gather_few, rules)) }
 
 pub loop-i-preserved : goal.loop-i-preserved
 loop-i-preserved c = search (gather_next, rules)

@@ -8,4 +8,4 @@ pub returns-then-not-is_shown : goal.returns-then-not-is_shown
 returns-then-not-is_shown c = search (gather_none, not-true, rules)
 
 pub returns : goal.returns
-returns c = search (gather_one, not-false, rules)
+returns c = search (gather_one, rules)

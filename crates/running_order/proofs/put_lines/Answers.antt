@@ -7,7 +7,7 @@ pub loop-j-init : goal.loop-j-init
 loop-j-init c = search (append_no_lines, rules)
 
 pub put_line-next-requires : goal.put_line-next-requires
-put_line-next-requires c = (search (carried_slot, rules), (search rules, search (line_room, rules)))
+put_line-next-requires c = record { slot_in = search (carried_slot, rules); terms_of = search rules; at_in_bounds = search (line_room, rules) }
 
 pub loop-j-preserved : goal.loop-j-preserved
 loop-j-preserved c = (search (append_next, rules), search rules, search rules)

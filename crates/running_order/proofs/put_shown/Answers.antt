@@ -19,7 +19,7 @@ pub slice_bounds-put_lines-end : goal.slice_bounds-put_lines-end
 slice_bounds-put_lines-end c = search (sorted_count, rules)
 
 pub put_lines-requires : goal.put_lines-requires
-put_lines-requires c = (search rules, (search rules, (search (shown_carry, rules), (search (sorted_size, rules), search (shown_few, rules), search rules))))
+put_lines-requires c = record { sheet_of = search rules; terms_of = search rules; carry = search (shown_carry, rules); numbers_len = (search (sorted_size, rules), search (shown_few, rules), search rules) }
 
 pub returns : goal.returns
 returns c = search (append_shown, rules)

@@ -16,7 +16,7 @@ pub number2-len-requires : goal.number2-len-requires
 number2-len-requires c = unfold sheet_size mark_at in search rules
 
 pub returns-then-not-check_same : goal.returns-then-not-check_same
-returns-then-not-check_same c = search (shown_other_check, not-true)
+returns-then-not-check_same c = search (shown_other_check)
 
 pub open_field-requires : goal.open_field-requires
 open_field-requires c = (search rules, search (zeros_size, rules))
@@ -25,10 +25,10 @@ pub tail_zero-requires : goal.tail_zero-requires
 tail_zero-requires c = search (length_inside, rules)
 
 pub returns-then-tail_zero : goal.returns-then-tail_zero
-returns-then-tail_zero c = search (shown, not-false)
+returns-then-tail_zero c = search (shown)
 
 pub refuse_left-requires : goal.refuse_left-requires
 refuse_left-requires c = (search rules, search (length_few, rules))
 
 pub returns : goal.returns
-returns c = search (shown_tail, not-false)
+returns c = search (shown_tail)
