@@ -13,7 +13,7 @@ pub returns-in-Refuse-fitting : goal.returns-in-Refuse-fitting
 returns-in-Refuse-fitting c = search (dated_unfit, rules)
 
 pub read_fit-requires : goal.read_fit-requires
-read_fit-requires c = (sheet_fits _ _ c.fit_verdict-fitting.ensures c.enum_told-in_default-fitting-1.given.1, search (window_zero, rules))
+read_fit-requires c = (sheet_fits _ _ c.fit_verdict-fitting.ensures (search rules), search (window_zero, rules))
 
 pub returns : goal.returns
 returns c = search (dated_fit_lem, rules)

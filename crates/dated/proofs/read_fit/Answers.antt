@@ -8,19 +8,19 @@ pub sheet_shape-h-requires : goal.sheet_shape-h-requires
 sheet_shape-h-requires c = search header_inside
 
 pub returns-then-not-fit_terms : goal.returns-then-not-fit_terms
-returns-then-not-fit_terms c = search (fit_terms_lem, not-true)
+returns-then-not-fit_terms c = search (fit_terms_lem)
 
 pub returns-in-Refuse : goal.returns-in-Refuse
-returns-in-Refuse c = search (fit_class, not-false)
+returns-in-Refuse c = search (fit_class)
 
 pub returns-then-day-gt-LAST_DAY : goal.returns-then-day-gt-LAST_DAY
-returns-then-day-gt-LAST_DAY c = search (fit_late, not-false)
+returns-then-day-gt-LAST_DAY c = search (fit_late)
 
 pub returns-in-Refuse-mark : goal.returns-in-Refuse-mark
-returns-in-Refuse-mark c = search (fit_mark, not-false)
+returns-in-Refuse-mark c = search (fit_mark)
 
 pub read_shown-requires : goal.read_shown-requires
 read_shown-requires c = (search rules, search (terms_found, not-false), search rules)
 
 pub returns : goal.returns
-returns c = search (fit_shown, not-false)
+returns c = search (fit_shown)

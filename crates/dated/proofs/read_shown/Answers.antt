@@ -20,10 +20,10 @@ pub on_show-requires : goal.on_show-requires
 on_show-requires c = (search terms_placed, search (slot_below, slot_there))
 
 pub returns-then-not-on_show : goal.returns-then-not-on_show
-returns-then-not-on_show c = search (shown_off, not-true)
+returns-then-not-on_show c = search (shown_off)
 
 pub show-a-requires : goal.show-a-requires
 show-a-requires c = (search (written, slot_there), search rules)
 
 pub returns : goal.returns
-returns c = search (shown_made, not-false)
+returns c = search (shown_made)

@@ -6,7 +6,7 @@ pub returns-in-Refuse : goal.returns-in-Refuse
 returns-in-Refuse c = search (blank_refused, rules)
 
 pub put_blank-requires : goal.put_blank-requires
-put_blank-requires c = (search (blank_size, rules), (search (blank_count, rules), search (blank_class, rules)))
+put_blank-requires c = record { sheet_len = search (blank_size, rules); n_bound = (search (blank_count, rules), search (blank_class, rules)) }
 
 pub returns : goal.returns
 returns c = search (blank_made, rules)
