@@ -6,8 +6,8 @@ use Rattle.points.proofs.change_pointed.Goals as goal
 
 pub returns-in-Check : goal.returns-in-Check
 unfolding change_point
-returns-in-Check c = said (λ x. pointed_at 10 (change_point c.args.slot x)) _ _ _ c.enum_told-1.given.1 c.at.ensures
+returns-in-Check c = said (λ x. pointed_at 10 (change_point c.args.slot x)) _ _ _ c.in-Check.is c.at.ensures
 
 pub returns-in-Byte : goal.returns-in-Byte
 unfolding change_point
-returns-in-Byte c = said (λ x. pointed_at 10 (change_point c.args.slot x)) _ _ _ c.c-1.given.1 c.at-in-Byte.ensures
+returns-in-Byte c = said (λ x. pointed_at 10 (change_point c.args.slot x)) _ _ _ c.in-Byte.is c.at-in-Byte.ensures

@@ -6,16 +6,16 @@ use Rattle.points.proofs.dated_pointed.Goals as goal
 
 pub returns-in-Read : goal.returns-in-Read
 unfolding dated_pointed dated_number dated_length dated_point answer_pointed
-returns-in-Read c = said dated_pointed _ _ _ c.a-1.given.1 c.answer_pointed.ensures
+returns-in-Read c = said dated_pointed _ _ _ c.in-Read.is c.answer_pointed.ensures
 
 pub returns-in-UnfitTerms : goal.returns-in-UnfitTerms
 unfolding dated_pointed dated_number dated_length dated_point answer_pointed
-returns-in-UnfitTerms c = said dated_pointed _ _ _ c.enum_told-1.given.1 c.at.ensures
+returns-in-UnfitTerms c = said dated_pointed _ _ _ c.in-UnfitTerms.is c.at.ensures
 
 pub returns-in-NoSuchDate : goal.returns-in-NoSuchDate
 unfolding dated_pointed dated_number dated_length dated_point answer_pointed
-returns-in-NoSuchDate c = said dated_pointed _ _ _ c.enum_told-in-NoSuchDate-1.given.1 c.at-in-NoSuchDate.ensures
+returns-in-NoSuchDate c = said dated_pointed _ _ _ c.in-NoSuchDate.is c.at-in-NoSuchDate.ensures
 
 pub returns-in-NotOnShow : goal.returns-in-NotOnShow
 unfolding dated_pointed dated_number dated_length dated_point answer_pointed
-returns-in-NotOnShow c = said dated_pointed _ _ _ c.enum_told-in-NotOnShow-1.given.1 c.at-in-NotOnShow.ensures
+returns-in-NotOnShow c = said dated_pointed _ _ _ c.in-NotOnShow.is c.at-in-NotOnShow.ensures

@@ -6,12 +6,12 @@ use Rattle.points.proofs.fault_pointed.Goals as goal
 
 pub returns-in-Nothing : goal.returns-in-Nothing
 unfolding fault_point
-returns-in-Nothing c = said (λ f. pointed_at 4 (fault_point f)) _ _ _ c.enum_told-1.given.1 c.at.ensures
+returns-in-Nothing c = said (λ f. pointed_at 4 (fault_point f)) _ _ _ c.in-Nothing.is c.at.ensures
 
 pub returns-in-Header : goal.returns-in-Header
 unfolding fault_point
-returns-in-Header c = said (λ f. pointed_at 4 (fault_point f)) _ _ _ c.f-1.given.1 c.header_pointed.ensures
+returns-in-Header c = said (λ f. pointed_at 4 (fault_point f)) _ _ _ c.in-Header.is c.header_pointed.ensures
 
 pub returns-in-Mark : goal.returns-in-Mark
 unfolding fault_point
-returns-in-Mark c = said (λ f. pointed_at 4 (fault_point f)) _ _ _ c.f-in-Mark-1.given.1 c.mark_pointed.ensures
+returns-in-Mark c = said (λ f. pointed_at 4 (fault_point f)) _ _ _ c.in-Mark.is c.mark_pointed.ensures

@@ -6,12 +6,12 @@ use Rattle.points.proofs.mark_pointed.Goals as goal
 
 pub returns-in-Number : goal.returns-in-Number
 unfolding mark_point
-returns-in-Number c = said (λ r. pointed_at 4 (mark_point c.args.slot r)) _ _ _ c.enum_told-1.given.1 c.at.ensures
+returns-in-Number c = said (λ r. pointed_at 4 (mark_point c.args.slot r)) _ _ _ c.in-Number.is c.at.ensures
 
 pub returns-in-Length : goal.returns-in-Length
 unfolding mark_point
-returns-in-Length c = said (λ r. pointed_at 4 (mark_point c.args.slot r)) _ _ _ c.enum_told-in-Length-1.given.1 c.at-in-Length.ensures
+returns-in-Length c = said (λ r. pointed_at 4 (mark_point c.args.slot r)) _ _ _ c.in-Length.is c.at-in-Length.ensures
 
 pub returns-in-Zero : goal.returns-in-Zero
 unfolding mark_point
-returns-in-Zero c = said (λ r. pointed_at 4 (mark_point c.args.slot r)) _ _ _ c.r-1.given.1 c.at-in-Zero.ensures
+returns-in-Zero c = said (λ r. pointed_at 4 (mark_point c.args.slot r)) _ _ _ c.in-Zero.is c.at-in-Zero.ensures
