@@ -4,7 +4,7 @@
 ghost use Rattle.std.specs.Prelude.{◌≡◌, ◌%◌, ◌<◌, length};
 ghost use Rattle.show.specs.Pattern.{patterned};
 
-use libc::STDOUT_FILENO;
+use std::io;
 
 // Byte i of out becomes first + step * i, modulo 256.
 pub fn pattern(out: &mut [u8], step: u8, first: usize)
@@ -25,18 +25,17 @@ fn wide(x: u8) -> usize
     x as usize
 }
 
-pub fn hex(s: &[u8]) {
-    let mut i = 0;
-    while i < s.len() {
-        io::print_hex(STDOUT_FILENO, wide(s[i]) as u64, 2);
-        i += 1;
+pub fn hex<R: Print>(rt: &R, s: &[u8]) -> io::Result<()> {
+    for b in s {
+        print!(rt; "{b:02x}")?;
     }
+    Ok(())
 }
 
-pub fn number(n: usize) {
-    io::print_decimal(STDOUT_FILENO, n as u64);
+pub fn number<R: Print>(rt: &R, n: usize) -> io::Result<()> {
+    print!(rt; "{n}")
 }
 
-pub fn text(s: &[u8]) {
-    io::write_all(STDOUT_FILENO, s);
+pub fn text<R: Print>(rt: &R, s: &[u8]) -> io::Result<()> {
+    rt.write_all(s)
 }
