@@ -1,10 +1,12 @@
 // Reads a sheet from standard input and writes its listing. One byte more than the largest sheet has is read, so that a longer input is seen to be too long.
 #![tactic(auto)]
 
-fn main() {
+use std::io;
+
+fn main(rt: HostRuntime) -> io::Result<()> {
     let mut sheet = [0u8; 53265];
-    let n = io::read_full(0, &mut sheet);
+    let n = show::fill(&mut rt.reader(), &mut sheet);
     let mut text = [0u8; 10553];
     let k = listing::list(&sheet[..n], &mut text);
-    io::write_all(1, &text[..k]);
+    rt.write_all(&text[..k])
 }

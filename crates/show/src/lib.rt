@@ -1,10 +1,11 @@
-// What the programs that print vectors share: inputs by a rule, and bytes as hex digits.
+// What the programs share: inputs by a rule, bytes as hex digits, and reading an input to its end.
 #![tactic(auto)]
 
-ghost use Rattle.std.specs.Prelude.{◌≡◌, ◌%◌, ◌<◌, length};
+ghost use Rattle.std.specs.Prelude.{◌≡◌, ◌%◌, ◌<◌, ◌≤◌, length, take};
 ghost use Rattle.show.specs.Pattern.{patterned};
 
-use libc::STDOUT_FILENO;
+use std::io;
+use std::io::Read;
 
 // Byte i of out becomes first + step * i, modulo 256.
 pub fn pattern(out: &mut [u8], step: u8, first: usize)
@@ -25,18 +26,32 @@ fn wide(x: u8) -> usize
     x as usize
 }
 
-pub fn hex(s: &[u8]) {
-    let mut i = 0;
-    while i < s.len() {
-        io::print_hex(STDOUT_FILENO, wide(s[i]) as u64, 2);
-        i += 1;
+pub fn hex<R: Print>(rt: &R, s: &[u8]) -> io::Result<()> {
+    for b in s {
+        print!(rt; "{b:02x}")?;
     }
+    Ok(())
 }
 
-pub fn number(n: usize) {
-    io::print_decimal(STDOUT_FILENO, n as u64);
+pub fn number<R: Print>(rt: &R, n: usize) -> io::Result<()> {
+    print!(rt; "{n}")
 }
 
-pub fn text(s: &[u8]) {
-    io::write_all(STDOUT_FILENO, s);
+pub fn text<R: Print>(rt: &R, s: &[u8]) -> io::Result<()> {
+    rt.write_all(s)
+}
+
+// Reads until buf is full, the input ends or a read fails, and answers how many bytes that put at the start of buf.
+pub fn fill<F: Read>(input: &mut F, buf: &mut [u8]) -> usize
+    ensures { (result ≤ length buf.new) × (result ≡ length (take result buf.new)) }
+{
+    let mut done = 0;
+    while done < buf.len() {
+        let n = input.read(&mut buf[done..]).unwrap_or(0);
+        if n == 0 {
+            break;
+        }
+        done += n;
+    }
+    done
 }

@@ -7,6 +7,7 @@ ghost use Rattle.rounds.specs.Array.{tables};
 
 use rounds::Direction;
 use schedule::Register;
+use std::io;
 
 fn one_round(t: &[[u16; 16]; 4], d: Direction, by_words: bool, k: [u16; 4], a: [u16; 4]) -> [u16; 4]
     requires { t.now ≡ tables }
@@ -48,7 +49,7 @@ fn array_of(key: &[u8], r: usize, block: [u8; 8]) -> [u8; 8]
 }
 
 // The line of a key and the array that r chooses.
-fn line(key: &[u8], r: usize)
+fn line<R: Print>(rt: &R, key: &[u8], r: usize) -> io::Result<()>
     requires { r < 13 }
 {
     let mut wanted = [0u8; 8];
@@ -56,31 +57,32 @@ fn line(key: &[u8], r: usize)
     let mut block = [0u8; 8];
     chip_bench::bench_block(key, r, &wanted, &mut block);
     let array = array_of(key, r, block);
-    show::number(key.len() / 2);
-    show::text(b" ");
-    show::number(r);
-    show::text(b" ");
-    show::hex(key);
-    show::text(b" ");
-    show::hex(&array);
-    show::text(b" ");
-    show::hex(&block);
-    show::text(b"\n");
+    show::number(rt, key.len() / 2)?;
+    show::text(rt, b" ")?;
+    show::number(rt, r)?;
+    show::text(rt, b" ")?;
+    show::hex(rt, key)?;
+    show::text(rt, b" ")?;
+    show::hex(rt, &array)?;
+    show::text(rt, b" ")?;
+    show::hex(rt, &block)?;
+    show::text(rt, b"\n")
 }
 
 // The lines of the first 13 keys of as many bytes as key has.
-fn lines(key: &mut [u8]) {
+fn lines<R: Print>(rt: &R, key: &mut [u8]) -> io::Result<()> {
     for r in 0..13 {
         show::pattern(key, 29, 71 * r + 13);
-        line(key, r);
+        line(rt, key, r)?;
     }
+    Ok(())
 }
 
-fn main() {
+fn main(rt: HostRuntime) -> io::Result<()> {
     let mut short = [0u8; 8];
-    lines(&mut short);
+    lines(&rt, &mut short)?;
     let mut middle = [0u8; 12];
-    lines(&mut middle);
+    lines(&rt, &mut middle)?;
     let mut long = [0u8; 16];
-    lines(&mut long);
+    lines(&rt, &mut long)
 }

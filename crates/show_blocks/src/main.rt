@@ -3,8 +3,10 @@
 
 ghost use Rattle.std.specs.Prelude.{◌<◌};
 
+use std::io;
+
 // The line of a key and the block that s chooses.
-fn line(key: &[u8], s: usize)
+fn line<R: Print>(rt: &R, key: &[u8], s: usize) -> io::Result<()>
     requires { s < 16 }
 {
     let mut block = [0u8; 8];
@@ -13,29 +15,30 @@ fn line(key: &[u8], s: usize)
     let mut opened = [0u8; 8];
     mcrypton::encrypt_block(key, &block, 0x5a5a, &mut sealed);
     mcrypton::decrypt_block(key, &block, 0x33cc, &mut opened);
-    show::hex(key);
-    show::text(b" ");
-    show::hex(&block);
-    show::text(b" ");
-    show::hex(&sealed);
-    show::text(b" ");
-    show::hex(&opened);
-    show::text(b"\n");
+    show::hex(rt, key)?;
+    show::text(rt, b" ")?;
+    show::hex(rt, &block)?;
+    show::text(rt, b" ")?;
+    show::hex(rt, &sealed)?;
+    show::text(rt, b" ")?;
+    show::hex(rt, &opened)?;
+    show::text(rt, b"\n")
 }
 
 // The lines of the first 16 keys of as many bytes as key has.
-fn lines(key: &mut [u8]) {
+fn lines<R: Print>(rt: &R, key: &mut [u8]) -> io::Result<()> {
     for s in 0..16 {
         show::pattern(key, 29, 71 * s + 13);
-        line(key, s);
+        line(rt, key, s)?;
     }
+    Ok(())
 }
 
-fn main() {
+fn main(rt: HostRuntime) -> io::Result<()> {
     let mut short = [0u8; 8];
-    lines(&mut short);
+    lines(&rt, &mut short)?;
     let mut middle = [0u8; 12];
-    lines(&mut middle);
+    lines(&rt, &mut middle)?;
     let mut long = [0u8; 16];
-    lines(&mut long);
+    lines(&rt, &mut long)
 }

@@ -3,8 +3,10 @@
 
 ghost use Rattle.std.specs.Prelude.{◌≤◌, length};
 
+use std::io;
+
 // The line of the key and the message of as many bytes as key and message have; the message's length chooses the bytes.
-fn line(key: &mut [u8], message: &mut [u8])
+fn line<R: Print>(rt: &R, key: &mut [u8], message: &mut [u8]) -> io::Result<()>
     requires { length message.old ≤ 200 }
 {
     let n = message.len();
@@ -12,39 +14,39 @@ fn line(key: &mut [u8], message: &mut [u8])
     show::pattern(message, 53, 31 * n + 7);
     let mut check = [0u8; 8];
     modes::cmac(key, message, &mut check);
-    show::number(key.len() / 2);
-    show::text(b" ");
-    show::number(n);
-    show::text(b" ");
-    show::hex(&check);
-    show::text(b"\n");
+    show::number(rt, key.len() / 2)?;
+    show::text(rt, b" ")?;
+    show::number(rt, n)?;
+    show::text(rt, b" ")?;
+    show::hex(rt, &check)?;
+    show::text(rt, b"\n")
 }
 
-fn line_of(key: &mut [u8], n: usize)
+fn line_of<R: Print>(rt: &R, key: &mut [u8], n: usize) -> io::Result<()>
     requires { n ≤ 200 }
 {
     let mut message = [0u8; 200];
-    line(key, &mut message[..n]);
+    line(rt, key, &mut message[..n])
 }
 
-fn lines(key: &mut [u8]) {
-    line_of(key, 0);
-    line_of(key, 1);
-    line_of(key, 7);
-    line_of(key, 8);
-    line_of(key, 9);
-    line_of(key, 15);
-    line_of(key, 16);
-    line_of(key, 17);
-    line_of(key, 24);
-    line_of(key, 200);
+fn lines<R: Print>(rt: &R, key: &mut [u8]) -> io::Result<()> {
+    line_of(rt, key, 0)?;
+    line_of(rt, key, 1)?;
+    line_of(rt, key, 7)?;
+    line_of(rt, key, 8)?;
+    line_of(rt, key, 9)?;
+    line_of(rt, key, 15)?;
+    line_of(rt, key, 16)?;
+    line_of(rt, key, 17)?;
+    line_of(rt, key, 24)?;
+    line_of(rt, key, 200)
 }
 
-fn main() {
+fn main(rt: HostRuntime) -> io::Result<()> {
     let mut short = [0u8; 8];
-    lines(&mut short);
+    lines(&rt, &mut short)?;
     let mut middle = [0u8; 12];
-    lines(&mut middle);
+    lines(&rt, &mut middle)?;
     let mut long = [0u8; 16];
-    lines(&mut long);
+    lines(&rt, &mut long)
 }

@@ -1,40 +1,43 @@
 // Prints L, K1, K2, C_0 to C_n and T of CMAC for messages of several lengths: what the second program prints as `vectors steps`.
 #![tactic(auto)]
 
-ghost use Rattle.std.specs.Prelude.{◌≡◌, ◌++◌, ◌≤◌, length};
+ghost use Rattle.std.specs.Prelude.{◌≡◌, ◌++◌, ◌≤◌, length, IfOk};
 ghost use Rattle.octets.specs.Bytes.{zeros};
 ghost use Rattle.cipher.specs.Key.{encrypted};
 ghost use Rattle.modes.specs.Cmac.{chain_value};
 ghost use Rattle.modes.specs.Steps.{TwoParts, BlocksIn};
 
-fn start(key: &[u8], len: usize) {
-    show::number(key.len() / 2);
-    show::text(b" ");
-    show::number(len);
-    show::text(b" ");
+use std::io;
+
+fn start<R: Print>(rt: &R, key: &[u8], len: usize) -> io::Result<()> {
+    show::number(rt, key.len() / 2)?;
+    show::text(rt, b" ")?;
+    show::number(rt, len)?;
+    show::text(rt, b" ")
 }
 
-fn end(value: [u8; 8]) {
-    show::text(b" ");
-    show::hex(&value);
-    show::text(b"\n");
+fn end<R: Print>(rt: &R, value: [u8; 8]) -> io::Result<()> {
+    show::text(rt, b" ")?;
+    show::hex(rt, &value)?;
+    show::text(rt, b"\n")
 }
 
-fn named(key: &[u8], len: usize, name: &[u8], value: [u8; 8]) {
-    start(key, len);
-    show::text(name);
-    end(value);
+fn named<R: Print>(rt: &R, key: &[u8], len: usize, name: &[u8], value: [u8; 8]) -> io::Result<()> {
+    start(rt, key, len)?;
+    show::text(rt, name)?;
+    end(rt, value)
 }
 
-fn chained(key: &[u8], len: usize, i: usize, value: [u8; 8]) {
-    start(key, len);
-    show::text(b"C");
-    show::number(i);
-    end(value);
+fn chained<R: Print>(rt: &R, key: &[u8], len: usize, i: usize, value: [u8; 8]) -> io::Result<()> {
+    start(rt, key, len)?;
+    show::text(rt, b"C")?;
+    show::number(rt, i)?;
+    end(rt, value)
 }
 
 // Step 6 on one part of the message, each value printed: C_to, made of C_from, which is begin.
-fn part(
+fn part<R: Print>(
+    rt: &R,
     key: &[u8],
     len: usize,
     k: cipher::Key,
@@ -44,22 +47,22 @@ fn part(
     from: usize,
     to: usize,
     begin: [u8; 8],
-) -> [u8; 8]
+) -> io::Result<[u8; 8]>
     requires blocks_in { BlocksIn (head.now ++ rest.now) s.now from to }
     requires begin_value { begin ≡ chain_value (encrypted k) (zeros 8) (head.now ++ rest.now) from }
-    ensures { result ≡ chain_value (encrypted k) (zeros 8) (head.now ++ rest.now) to }
+    ensures { IfOk result (λ value. value ≡ chain_value (encrypted k) (zeros 8) (head.now ++ rest.now) to) }
 {
     let mut c = begin;
     for j in from..to {
         let next = modes::chain_next(k, head, rest, j + 1, c, octets::block_at(s, 8 * (j - from)));
         c = next;
-        chained(key, len, j + 1, c);
+        chained(rt, key, len, j + 1, c)?;
     }
-    c
+    Ok(c)
 }
 
 // The steps of SP 800-38B to C_n, for the message head ‖ rest of len bytes: the library's functions in the order of its own CMAC.
-fn steps(key: &[u8], len: usize, head: &[u8], rest: &[u8])
+fn steps<R: Print>(rt: &R, key: &[u8], len: usize, head: &[u8], rest: &[u8]) -> io::Result<()>
     requires { TwoParts head.now rest.now }
 {
     let k = cipher::load(key.len() / 2, key);
@@ -67,72 +70,73 @@ fn steps(key: &[u8], len: usize, head: &[u8], rest: &[u8])
     let l = subkeys.l;
     let k1 = subkeys.k1;
     let k2 = subkeys.k2;
-    named(key, len, b"L", l);
-    named(key, len, b"K1", k1);
-    named(key, len, b"K2", k2);
+    named(rt, key, len, b"L", l)?;
+    named(rt, key, len, b"K1", k1)?;
+    named(rt, key, len, b"K2", k2)?;
     let n = modes::block_count(head, rest);
     let h = head.len() / 8;
     let a = 8 * (n - 1 - h);
     let last = modes::last_block(k1, k2, &rest[a..]);
     let c0 = modes::chain_start();
-    chained(key, len, 0, c0);
-    let c_h = part(key, len, k, head, rest, head, 0, h, c0);
-    let c_before = part(key, len, k, head, rest, rest, h, n - 1, c_h);
+    chained(rt, key, len, 0, c0)?;
+    let c_h = part(rt, key, len, k, head, rest, head, 0, h, c0)?;
+    let c_before = part(rt, key, len, k, head, rest, rest, h, n - 1, c_h)?;
     chained(
+        rt,
         key,
         len,
         n,
         modes::chain_next(k, head, rest, n, c_before, last),
-    );
+    )
 }
 
 // A message whole, and T by the public CMAC.
-fn whole(key: &mut [u8], message: &mut [u8])
+fn whole<R: Print>(rt: &R, key: &mut [u8], message: &mut [u8]) -> io::Result<()>
     requires { length message.old ≤ 300 }
 {
     let len = message.len();
     show::pattern(key, 29, 71 * len + 13);
     show::pattern(message, 53, 31 * len + 7);
-    steps(key, len, b"", message);
+    steps(rt, key, len, b"", message)?;
     let mut tag = [0u8; 8];
     modes::cmac(key, message, &mut tag);
-    named(key, len, b"T", tag);
+    named(rt, key, len, b"T", tag)
 }
 
 // 200 bytes as the check of a sheet has them, a block and then a part of 192 bytes, and T by the check's CMAC.
-fn in_two_parts(key: &mut [u8]) {
+fn in_two_parts<R: Print>(rt: &R, key: &mut [u8]) -> io::Result<()> {
     let mut message = [0u8; 200];
     show::pattern(key, 29, 71 * 200 + 13);
     show::pattern(&mut message, 53, 31 * 200 + 7);
     let first = octets::block_at(&message, 0);
-    steps(key, 200, &first, &message[8..]);
+    steps(rt, key, 200, &first, &message[8..])?;
     let tag = modes::mac_two(cipher::load(key.len() / 2, key), first, &message[8..]);
-    named(key, 200, b"T", tag);
+    named(rt, key, 200, b"T", tag)
 }
 
-fn whole_of(key: &mut [u8], len: usize)
+fn whole_of<R: Print>(rt: &R, key: &mut [u8], len: usize) -> io::Result<()>
     requires { len ≤ 300 }
 {
     let mut message = [0u8; 300];
-    whole(key, &mut message[..len]);
+    whole(rt, key, &mut message[..len])
 }
 
-fn lines(key: &mut [u8]) {
-    whole_of(key, 0);
-    whole_of(key, 1);
-    whole_of(key, 7);
-    whole_of(key, 8);
-    whole_of(key, 9);
-    whole_of(key, 16);
-    in_two_parts(key);
-    whole_of(key, 300);
+fn lines<R: Print>(rt: &R, key: &mut [u8]) -> io::Result<()> {
+    whole_of(rt, key, 0)?;
+    whole_of(rt, key, 1)?;
+    whole_of(rt, key, 7)?;
+    whole_of(rt, key, 8)?;
+    whole_of(rt, key, 9)?;
+    whole_of(rt, key, 16)?;
+    in_two_parts(rt, key)?;
+    whole_of(rt, key, 300)
 }
 
-fn main() {
+fn main(rt: HostRuntime) -> io::Result<()> {
     let mut short = [0u8; 8];
-    lines(&mut short);
+    lines(&rt, &mut short)?;
     let mut middle = [0u8; 12];
-    lines(&mut middle);
+    lines(&rt, &mut middle)?;
     let mut long = [0u8; 16];
-    lines(&mut long);
+    lines(&rt, &mut long)
 }

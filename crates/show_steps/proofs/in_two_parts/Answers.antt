@@ -4,4 +4,4 @@ use Rattle.modes.proofs.Authentication.{block_first}
 use Rattle.show_steps.proofs.in_two_parts.Goals as goal
 
 pub steps-requires : goal.steps-requires
-steps-requires c = block_first _ _ (search rules) (search rules)
+steps-requires g c = block_first _ _ (search rules) (search rules)

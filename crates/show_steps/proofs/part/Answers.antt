@@ -4,10 +4,10 @@ use Rattle.modes.proofs.Authentication.{block_inside, block_in_part, chain_again
 use Rattle.show_steps.proofs.part.Goals as goal
 
 pub block_at-requires : goal.block_at-requires
-block_at-requires c = search (block_inside, rules)
+block_at-requires g c = search (block_inside, rules)
 
 pub chain_next-next-requires : goal.chain_next-next-requires
-chain_next-next-requires c = ((search rules, search (block_in_part, rules)), search (chain_again, rules))
+chain_next-next-requires g c = record { i_nonzero = (search rules, search (block_in_part, rules)); c_value = search (chain_again, rules) }
 
 pub returns : goal.returns
-returns c = search (chain_end, rules)
+returns g c = search (chain_end, rules)

@@ -8,7 +8,7 @@ use Rattle.modes.specs.Cmac.{chain_value}
 use Rattle.show_steps.proofs.part.Given as goal
 
 abbrev pub invariant-loop-j : goal.invariant-loop-j
-invariant-loop-j l = (l.c ≡ chain_value (encrypted l.k) (zeros 8) (l.head ++ l.rest) l.j) × (l.from ≤ l.j) × (l.j ≤ l.to)
+invariant-loop-j g l = (l.c ≡ chain_value (encrypted l.k) (zeros 8) (l.head ++ l.rest) l.j) × (l.from ≤ l.j) × (l.j ≤ l.to)
 
 abbrev pub decreases-loop-j : goal.decreases-loop-j
-decreases-loop-j l = l.to - l.j
+decreases-loop-j g l = l.to - l.j

@@ -4,4 +4,4 @@ use Rattle.modes.proofs.Authentication.{no_block_first}
 use Rattle.show_steps.proofs.whole.Goals as goal
 
 pub steps-requires : goal.steps-requires
-steps-requires c = search (no_block_first, rules)
+steps-requires g c = search (no_block_first, rules)
