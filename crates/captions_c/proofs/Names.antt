@@ -6,6 +6,7 @@ use mathlib.Core.List.{List, [], ◌∷◌, ◌++◌}
 use lib.ListN.{replicate}
 use contract.Lifetimes.{Lfts}
 use denote.Ref.{Bor}
+use denote.MutBor.{MutBor}
 use Rattle.octets.specs.Bytes.{zeros}
 use Rattle.octets.specs.Outcome as Blocks
 use Rattle.text.specs.Place.{broken_at}
@@ -61,6 +62,10 @@ use Rattle.captions_c.proofs.captions_running_order.Reads as captions_running_or
 abbrev pub lent : List ℕ → Bor (List ℕ)
 lent bytes = record { ref_ptr = (0, 0); now = bytes }
 
+-- bytes that are lent to be written
+abbrev pub lent_mut : List ℕ → MutBor (List ℕ)
+lent_mut bytes = record { ref_ptr = (0, 0); ghost_name = 0; now = bytes }
+
 -- nor of lifetimes
 abbrev pub two : Lfts 2
 two = ([], ([], tt))
@@ -76,54 +81,54 @@ five = ([], four)
 
 abbrev pub Encrypts : List ℕ → List ℕ → ℕ → List ℕ → Answer → List ℕ → Type 0
 Encrypts key b path out r after =
-    captions_encrypt_block.Learnt three (lent key, (lent b, (path, (lent out, tt)))) r (lent key, (lent b, (path, (lent after, tt))))
+    captions_encrypt_block.Learnt three (lent key, (lent b, (path, (lent_mut out, tt)))) r (lent key, (lent b, (path, (lent_mut after, tt))))
 
 abbrev pub Decrypts : List ℕ → List ℕ → ℕ → List ℕ → Answer → List ℕ → Type 0
 Decrypts key b path out r after =
-    captions_decrypt_block.Learnt three (lent key, (lent b, (path, (lent out, tt)))) r (lent key, (lent b, (path, (lent after, tt))))
+    captions_decrypt_block.Learnt three (lent key, (lent b, (path, (lent_mut out, tt)))) r (lent key, (lent b, (path, (lent_mut after, tt))))
 
 abbrev pub EncryptsPresent : List ℕ → List ℕ → List ℕ → Answer → List ℕ → Type 0
-EncryptsPresent key b out r after = captions_present_encrypt_block.Learnt three (lent key, (lent b, (lent out, tt))) r (lent key, (lent b, (lent after, tt)))
+EncryptsPresent key b out r after = captions_present_encrypt_block.Learnt three (lent key, (lent b, (lent_mut out, tt))) r (lent key, (lent b, (lent_mut after, tt)))
 
 abbrev pub DecryptsPresent : List ℕ → List ℕ → List ℕ → Answer → List ℕ → Type 0
-DecryptsPresent key b out r after = captions_present_decrypt_block.Learnt three (lent key, (lent b, (lent out, tt))) r (lent key, (lent b, (lent after, tt)))
+DecryptsPresent key b out r after = captions_present_decrypt_block.Learnt three (lent key, (lent b, (lent_mut out, tt))) r (lent key, (lent b, (lent_mut after, tt)))
 
 abbrev pub Benches : List ℕ → ℕ → List ℕ → List ℕ → Answer → List ℕ → Type 0
 Benches key round array out r after =
-    captions_bench_block.Learnt three (lent key, (round, (lent array, (lent out, tt)))) r (lent key, (round, (lent array, (lent after, tt))))
+    captions_bench_block.Learnt three (lent key, (round, (lent array, (lent_mut out, tt)))) r (lent key, (round, (lent array, (lent_mut after, tt))))
 
 abbrev pub Checks : List ℕ → List ℕ → List ℕ → Answer → List ℕ → Type 0
-Checks key message out r after = captions_cmac.Learnt three (lent key, (lent message, (lent out, tt))) r (lent key, (lent message, (lent after, tt)))
+Checks key message out r after = captions_cmac.Learnt three (lent key, (lent message, (lent_mut out, tt))) r (lent key, (lent message, (lent_mut after, tt)))
 
 abbrev pub SealsPanel : List ℕ → ℕ → List ℕ → List ℕ → Answer → List ℕ → Type 0
 SealsPanel key first panel out r after =
-    captions_panel.Learnt three (lent key, (first, (lent panel, (lent out, tt)))) r (lent key, (first, (lent panel, (lent after, tt))))
+    captions_panel.Learnt three (lent key, (first, (lent panel, (lent_mut out, tt)))) r (lent key, (first, (lent panel, (lent_mut after, tt))))
 
 abbrev pub Blanks : List ℕ → ℕ → ℕ → ℕ → List ℕ → List ℕ → Answer → List ℕ → Type 0
 Blanks sheet slots class serial sealing checking r after =
-    captions_blank.Learnt three (lent sheet, (slots, (class, (serial, (lent sealing, (lent checking, tt)))))) r
-    (lent after, (slots, (class, (serial, (lent sealing, (lent checking, tt))))))
+    captions_blank.Learnt three (lent_mut sheet, (slots, (class, (serial, (lent sealing, (lent checking, tt)))))) r
+    (lent_mut after, (slots, (class, (serial, (lent sealing, (lent checking, tt))))))
 
 abbrev pub Writes : List ℕ → List ℕ → List ℕ → ℕ → List ℕ → Pointed → List ℕ → Type 0
 Writes sealing checking sheet slot caption r after =
-    captions_write.Learnt four (lent sealing, (lent checking, (lent sheet, (slot, (lent caption, tt))))) r
-    (lent sealing, (lent checking, (lent after, (slot, (lent caption, tt)))))
+    captions_write.Learnt four (lent sealing, (lent checking, (lent_mut sheet, (slot, (lent caption, tt))))) r
+    (lent sealing, (lent checking, (lent_mut after, (slot, (lent caption, tt)))))
 
 abbrev pub Clears : List ℕ → ℕ → Answer → List ℕ → Type 0
-Clears sheet slot r after = captions_clear.Learnt ([], tt) (lent sheet, (slot, tt)) r (lent after, (slot, tt))
+Clears sheet slot r after = captions_clear.Learnt ([], tt) (lent_mut sheet, (slot, tt)) r (lent_mut after, (slot, tt))
 
 abbrev pub FindsBreak : List ℕ → ℕ → Type 0
 FindsBreak text r = captions_broken_at.Learnt ([], tt) (lent text, tt) r (lent text, tt)
 
 abbrev pub Reads : List ℕ → List ℕ → List ℕ → ℕ → List ℕ → Pointed → List ℕ → Type 0
 Reads sealing checking sheet slot window r after =
-    captions_read.Learnt four (lent sealing, (lent checking, (lent sheet, (slot, (lent window, tt))))) r
-    (lent sealing, (lent checking, (lent sheet, (slot, (lent after, tt)))))
+    captions_read.Learnt four (lent sealing, (lent checking, (lent sheet, (slot, (lent_mut window, tt))))) r
+    (lent sealing, (lent checking, (lent sheet, (slot, (lent_mut after, tt)))))
 
 abbrev pub ReadsOn : List ℕ → List ℕ → List ℕ → List ℕ → ℕ → ℕ → List ℕ → Pointed → List ℕ → Type 0
 ReadsOn sealing checking sheet terms slot day window r after =
-    captions_dated_read.Learnt five (lent sealing, (lent checking, (lent sheet, (lent terms, (slot, (day, (lent window, tt))))))) r
-    (lent sealing, (lent checking, (lent sheet, (lent terms, (slot, (day, (lent after, tt)))))))
+    captions_dated_read.Learnt five (lent sealing, (lent checking, (lent sheet, (lent terms, (slot, (day, (lent_mut window, tt))))))) r
+    (lent sealing, (lent checking, (lent sheet, (lent terms, (slot, (day, (lent_mut after, tt)))))))
 
 abbrev pub NumbersDay : ℕ → ℕ → ℕ → Day → Type 0
 NumbersDay year month day r = captions_day_of_date.Learnt tt (year, (month, (day, tt))) r (year, (month, (day, tt)))
@@ -132,11 +137,11 @@ abbrev pub DatesDay : ℕ → Date → Type 0
 DatesDay day r = captions_date_of_day.Learnt tt (day, tt) r (day, tt)
 
 abbrev pub Lists : List ℕ → List ℕ → ℕ → List ℕ → Type 0
-Lists sheet out r after = captions_list.Learnt two (lent sheet, (lent out, tt)) r (lent sheet, (lent after, tt))
+Lists sheet out r after = captions_list.Learnt two (lent sheet, (lent_mut out, tt)) r (lent sheet, (lent_mut after, tt))
 
 abbrev pub Orders : List ℕ → List ℕ → List ℕ → List ℕ → Answer → List ℕ → Type 0
 Orders sheet terms date out r after =
-    captions_running_order.Learnt four (lent sheet, (lent terms, (lent date, (lent out, tt)))) r (lent sheet, (lent terms, (lent date, (lent after, tt))))
+    captions_running_order.Learnt four (lent sheet, (lent terms, (lent date, (lent_mut out, tt)))) r (lent sheet, (lent terms, (lent date, (lent_mut after, tt))))
 
 -- ---- the statement
 

@@ -4,8 +4,8 @@ use Rattle.captions_c.proofs.date_answer.Goals as goal
 
 pub returns-in-Date : goal.returns-in-Date
 unfolding date_outcome
-returns-in-Date c = ap date_outcome (sym c.a-1.given.1)
+returns-in-Date c = ap date_outcome (sym c.in-Date.is)
 
 pub returns-in-NoSuchDate : goal.returns-in-NoSuchDate
 unfolding date_outcome
-returns-in-NoSuchDate c = ap date_outcome (sym c.enum_told-1.given.1)
+returns-in-NoSuchDate c = ap date_outcome (sym c.in-NoSuchDate.is)

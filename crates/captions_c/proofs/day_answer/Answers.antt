@@ -4,8 +4,8 @@ use Rattle.captions_c.proofs.day_answer.Goals as goal
 
 pub returns-in-Day : goal.returns-in-Day
 unfolding day_outcome
-returns-in-Day c = ap day_outcome (sym c.a-1.given.1)
+returns-in-Day c = ap day_outcome (sym c.in-Day.is)
 
 pub returns-in-NoSuchDate : goal.returns-in-NoSuchDate
 unfolding day_outcome
-returns-in-NoSuchDate c = ap day_outcome (sym c.enum_told-1.given.1)
+returns-in-NoSuchDate c = ap day_outcome (sym c.in-NoSuchDate.is)

@@ -7,8 +7,8 @@ use Rattle.captions_c.proofs.order_answer.Goals as goal
 
 pub returns-in-Put : goal.returns-in-Put
 unfolding order_outcome
-returns-in-Put c = λ x. ap (λ (a : OrderAnswer). order_outcome a x) (sym c.a-1.given.1)
+returns-in-Put c = λ x. ap (λ (a : OrderAnswer). order_outcome a x) (sym c.in-Put.is)
 
 pub returns-in-WrongSpan : goal.returns-in-WrongSpan
 unfolding order_outcome
-returns-in-WrongSpan c = crosses block_made order_outcome _ _ _ _ c.enum_told-1.given.1 c.numbered.ensures.0 c.numbered.ensures.1 (λ x. refl)
+returns-in-WrongSpan c = crosses block_made order_outcome _ _ _ _ c.in-WrongSpan.is c.numbered.ensures.0 c.numbered.ensures.1 (λ x. refl)

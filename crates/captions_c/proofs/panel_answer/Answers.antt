@@ -6,16 +6,16 @@ use Rattle.captions_c.proofs.panel_answer.Goals as goal
 
 pub returns-in-Accepted : goal.returns-in-Accepted
 unfolding panel_outcome
-returns-in-Accepted c = crosses block_made panel_outcome _ _ _ _ c.enum_told-1.given.1 c.numbered.ensures.0 c.numbered.ensures.1 (λ x. refl)
+returns-in-Accepted c = crosses block_made panel_outcome _ _ _ _ c.in-Accepted.is c.numbered.ensures.0 c.numbered.ensures.1 (λ x. refl)
 
 pub returns-in-WrongKey : goal.returns-in-WrongKey
 unfolding panel_outcome
-returns-in-WrongKey c = crosses block_made panel_outcome _ _ _ _ c.enum_told-in-WrongKey-1.given.1 c.numbered-in-WrongKey.ensures.0 c.numbered-in-WrongKey.ensures.1 (λ x. refl)
+returns-in-WrongKey c = crosses block_made panel_outcome _ _ _ _ c.in-WrongKey.is c.numbered-in-WrongKey.ensures.0 c.numbered-in-WrongKey.ensures.1 (λ x. refl)
 
 pub returns-in-WrongSpan : goal.returns-in-WrongSpan
 unfolding panel_outcome
-returns-in-WrongSpan c = crosses block_made panel_outcome _ _ _ _ c.enum_told-in-WrongSpan-1.given.1 c.numbered-in-WrongSpan.ensures.0 c.numbered-in-WrongSpan.ensures.1 (λ x. refl)
+returns-in-WrongSpan c = crosses block_made panel_outcome _ _ _ _ c.in-WrongSpan.is c.numbered-in-WrongSpan.ensures.0 c.numbered-in-WrongSpan.ensures.1 (λ x. refl)
 
 pub returns-in-Overlong : goal.returns-in-Overlong
 unfolding panel_outcome
-returns-in-Overlong c = crosses block_made panel_outcome _ _ _ _ c.enum_told-in-Overlong-1.given.1 c.numbered-in-Overlong.ensures.0 c.numbered-in-Overlong.ensures.1 (λ x. refl)
+returns-in-Overlong c = crosses block_made panel_outcome _ _ _ _ c.in-Overlong.is c.numbered-in-Overlong.ensures.0 c.numbered-in-Overlong.ensures.1 (λ x. refl)
