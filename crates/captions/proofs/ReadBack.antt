@@ -8,7 +8,7 @@ use lib.Dec.{lit≤}
 use lib.ListN.{length, take, drop, length-drop, take-append-drop}
 use lib.Seq.{length-take-le}
 use borrow.Author.Tests.{leb-false, not-false}
-use Rattle.octets.specs.Bytes.{Bytes, be, number, zeros, part, all_zero, same}
+use Rattle.octets.specs.Bytes.{Bytes, be, zeros, part, all_zero, same}
 use Rattle.octets.proofs.Compare.{same_is}
 use Rattle.octets.proofs.EveryByte.{part_bytes}
 use Rattle.octets.proofs.Numbers.{be_zero}

@@ -5,20 +5,20 @@ use mathlib.Core.Bool.{Bool, true, false, not, ◌||◌, false≢true}
 use mathlib.Core.List.{List, [], ◌∷◌, ◌++◌}
 use mathlib.Core.Logic.{◌⊎◌, inl, inr}
 use native.Mathlib.Omega.{arith}
-use lib.Dec.{eqb, lit≤}
+use lib.Dec.{eqb}
 use lib.ListN.{length, get_or, drop, replicate}
 use lib.Seq.{get_or-drop}
-use borrow.Author.Tests.{eq-eqb, ne_eqb, eqb-true, leb-false, not-true, not-false}
+use borrow.Author.Tests.{eq-eqb, ne_eqb, leb-false, not-true, not-false}
 use Rattle.octets.specs.Bytes.{if◌then◌else◌, number, zeros, all_zero, same, all_below, be}
 use Rattle.octets.specs.Outcome.{decided}
 use Rattle.octets.specs.Clauses.{Exactly, OneOf, Each, none, and}
-use Rattle.octets.proofs.Clauses.{Reflects, reflects_not, reflects_and, reflects_or, reflects_as, reflects_eqb, reflects_leb, reflects_ltb, reflects_same, Means, Refuses, decided_exactly, decided_refused, decided_zero}
-use Rattle.octets.proofs.Compare.{same_is, same_eq}
+use Rattle.octets.proofs.Clauses.{Reflects, reflects_not, reflects_and, reflects_or, reflects_as, reflects_eqb, reflects_leb, reflects_ltb, reflects_same, Means, decided_exactly, decided_refused}
+use Rattle.octets.proofs.Compare.{same_is}
 use Rattle.octets.proofs.Zeros.{all_zero_is, get_or_zeros}
 use Rattle.text.specs.Grammar.{forms, inside, after, some, meets, well_formed}
 use Rattle.text.proofs.Grammar.{reflects_utf8}
 use Rattle.cipher.specs.Key.{mcrypton_class, present_class, class_known, key_bytes, sheet_key_length}
-use Rattle.layout.specs.Layout.{Edition, new_edition, edition_of, rule1, rule3, slots, key_class, edition_byte, last_write, serial, stored_mark, slot_count, sheet_size, mark_at, field_at, mark_number, mark_length, mark_check, mark, field, blank_slot, fit_slot, fit_in, fit, blank_sheet}
+use Rattle.layout.specs.Layout.{Edition, edition_of, rule1, rule3, slots, key_class, edition_byte, last_write, serial, stored_mark, slot_count, sheet_size, mark_at, field_at, mark_number, mark_length, mark_check, mark, field, blank_slot, fit_slot, fit_in, fit, blank_sheet}
 use Rattle.layout.specs.Rules.{Classes, KeyFits, MeetsLayout}
 use Rattle.layout.proofs.Header.{edition_cases}
 use Rattle.layout.proofs.Fits.{fit_rules}

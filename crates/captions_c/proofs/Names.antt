@@ -32,7 +32,7 @@ use Rattle.listing.specs.Listing.{listed}
 use Rattle.running_order.specs.Calls.{ordering}
 use Rattle.running_order.specs.Example.{example_sheet, example_terms}
 use Rattle.running_order.proofs.Example.{exhibited}
-use Rattle.exhibits.specs.Values.{sealing_key, checking_key, block, encrypted_block, decrypted_block, wanted, leading, abc, abc_check, new_sheet, blank_one, written_one, cleared_one, fifth_day}
+use Rattle.exhibits.specs.Values.{sealing_key, checking_key, block, encrypted_block, decrypted_block, wanted, leading, abc, abc_check, new_sheet, blank_one, written_one, fifth_day}
 use Rattle.exhibits.proofs.Exhibits.{exhibits}
 use Rattle.captions_c.specs.Answer.{crossed, plain, day_crossed, date_crossed}
 use Rattle.captions_c.specs.declared.Answer.{Answer}

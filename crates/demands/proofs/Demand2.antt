@@ -3,7 +3,7 @@ use Prim.Native.Nat.{ℕ, ◌-◌, ◌≤◌, ◌<◌}
 use mathlib.Core.Path.{◌≡◌, refl}
 use mathlib.Core.Bool.{true}
 use mathlib.Core.List.{List, ◌++◌}
-use lib.ListN.{length, take}
+use lib.ListN.{length}
 use Rattle.octets.specs.Bytes.{Bytes, be, zeros}
 use Rattle.modes.proofs.Chained.{cbc_steps}
 use Rattle.modes.proofs.Printed.{mac_steps}

@@ -9,8 +9,8 @@ use Rattle.captions.specs.Captions.{Keys}
 use Rattle.captions.specs.Calls.{clearing}
 use Rattle.captions.specs.Runs.{finally}
 use Rattle.captions.specs.Model.{Call, writes, clears, page, answered, model_step}
-use Rattle.captions.specs.Turns.{Turn, own, stranger, own_calls, EachStranger, none as no_stranger, past, met, turn_model}
-use Rattle.captions.specs.Claim.{stepped, SameHeader, Captions, TurnedDown, FollowsModel, step_with, shown}
+use Rattle.captions.specs.Turns.{Turn, own_calls, EachStranger, none as no_stranger, past, met, turn_model}
+use Rattle.captions.specs.Claim.{SameHeader, Captions, TurnedDown, FollowsModel, step_with, shown}
 use Rattle.captions.proofs.Store.{key_class_kept}
 use Rattle.captions.proofs.Editions.{editions_regular, edition_kept}
 use Rattle.captions.proofs.Runs.{handed_on}

@@ -2,14 +2,12 @@
 use Prim.Native.Nat.{ℕ, zero, suc, ◌+◌, ◌*◌, ◌<◌}
 use mathlib.Core.Path.{◌≡◌, refl, sym, ap, ◌∙◌, subst}
 use mathlib.Core.Bool.{Bool, true, false, not, ◌&&◌, ◌||◌, false≢true}
-use mathlib.Core.List.{List, [], ◌∷◌}
-use mathlib.Core.Logic.{inl, inr}
+use mathlib.Core.List.{List}
 use native.Mathlib.Omega.{arith}
 use lib.Dec.{lit<}
 use lib.ListN.{length, replicate, length-replicate}
 use borrow.Author.Tests.{eq-eqb, not-false}
 use Rattle.octets.specs.Bytes.{Bytes, none, more, zeros, same}
-use Rattle.octets.specs.Clauses.{OneOf}
 use Rattle.captions.specs.Model.{Page, blank, holds}
 use Rattle.octets.proofs.Bool.{not_both, and_left, and_both}
 use Rattle.octets.proofs.Clauses.{reflects_yes}

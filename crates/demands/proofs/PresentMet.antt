@@ -17,7 +17,7 @@ use Rattle.cipher.specs.Key.{mcrypton_class, present_class, class_known, key_byt
 use Rattle.layout.specs.Layout.{slot_count, sheet_size, blank_sheet}
 use Rattle.captions.specs.Answers.{answer_number, answer_length, outcome}
 use Rattle.captions.specs.Captions.{mark_block, key_mark}
-use Rattle.captions.specs.Calls.{wrong_keys, blank_tests, blanking_with, blanking}
+use Rattle.captions.specs.Calls.{wrong_keys, blank_tests, blanking_with}
 use Rattle.captions.specs.declared.Answer.TheVariants.{Accepted}
 use Rattle.demands.specs.Ciphers.{by_paths, blanking_by}
 use Rattle.demands.specs.Witnesses.{rising_pair, PresentMet}

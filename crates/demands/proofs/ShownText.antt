@@ -2,7 +2,7 @@
 use Prim.Native.Nat.{ℕ, ◌+◌, ◌-◌, ◌≤◌, ◌<◌}
 use mathlib.Core.Path.{◌≡◌, refl, sym, ap, ◌∙◌, subst}
 use mathlib.Core.Bool.{Bool, true, false}
-use mathlib.Core.List.{List, [], ◌∷◌, ◌++◌}
+use mathlib.Core.List.{List, ◌++◌}
 use native.Mathlib.Decide.{ℕ_discrete}
 use native.Mathlib.Omega.{arith}
 use lib.ListN.{length, take}
@@ -21,7 +21,7 @@ use Rattle.captions.proofs.Store.{slots_kept, key_class_kept}
 use Rattle.captions.proofs.Editions.{editions_regular, edition_kept}
 use Rattle.captions.proofs.Effect.{Effect, write_effect}
 use Rattle.captions.proofs.Texts.{Text, held_text, page_text}
-use Rattle.dated.specs.Calls.{DatedOutcome, dating}
+use Rattle.dated.specs.Calls.{dating}
 use Rattle.dated.proofs.Laws.{dated_reads}
 use Rattle.demands.specs.Ciphers.{by_paths, reading_by}
 use Rattle.demands.specs.Steps.{Gives, turn_step, Stranger, Serves, BlankSheet}

@@ -10,7 +10,6 @@ use Rattle.layout.specs.Layout.{edition_of, key_class, fit_in, fit}
 use Rattle.captions.specs.Answers.{Outcome}
 use Rattle.captions.specs.Captions.{Keys}
 use Rattle.captions.specs.Model.{answered}
-use Rattle.captions.specs.Turns.{stranger}
 use Rattle.captions.specs.Claim.{stepped, SameHeader, TurnedDown}
 use Rattle.captions.proofs.Store.{key_class_kept}
 use Rattle.captions.proofs.Editions.{editions_regular, edition_kept}

@@ -1,6 +1,6 @@
 -- Demand 3 at work: the model and the strangers by computing, the run on a sheet from the exhibited calls.
 use Prim.Native.Nat.{ℕ}
-use mathlib.Core.Path.{◌≡◌, refl, sym, ap, ◌∙◌, subst}
+use mathlib.Core.Path.{◌≡◌, refl, sym, ap, ◌∙◌}
 use mathlib.Core.Logic.{◌≢◌}
 use mathlib.Core.List.{List, [], ◌∷◌}
 use native.Mathlib.Omega.{arith}
@@ -31,7 +31,7 @@ use Rattle.captions.specs.Claim.{stepped}
 use Rattle.exhibits.specs.Values.{keys, abc, nearly_worn, worn_one}
 use Rattle.exhibits.proofs.Exhibits.{exhibits}
 use Rattle.demands.specs.Ciphers.{by_paths, blanking_by}
-use Rattle.demands.specs.Steps.{Gives, key_refusal, turn_step, Stranger}
+use Rattle.demands.specs.Steps.{key_refusal, turn_step, Stranger}
 use Rattle.demands.specs.Witnesses.{says, first_pair, seven_turns, strangers_sheet, ModelRun, WornRun, StrangersMet, Witnesses}
 use Rattle.demands.proofs.Ciphers.{code_blanks}
 use Rattle.demands.proofs.Gives.{gives}

@@ -1,7 +1,7 @@
 -- The exhibited calls come to what the record says.
 use Prim.Native.Nat.{ℕ, ◌-◌}
-use mathlib.Core.Path.{◌≡◌, refl, sym, ap, ap₂, ◌∙◌}
-use mathlib.Core.Bool.{Bool, true, false, not, ◌||◌}
+use mathlib.Core.Path.{◌≡◌, refl, sym, ap, ◌∙◌}
+use mathlib.Core.Bool.{not, ◌||◌}
 use mathlib.Core.List.{List, [], ◌∷◌, ◌++◌}
 use native.Mathlib.Omega.{arith}
 use lib.ListN.{drop, replicate}
@@ -20,21 +20,20 @@ use Rattle.cipher.specs.Key.{mcrypton_class, class_known, key_bytes, sheet_key_l
 use Rattle.layout.specs.Layout.{edition1, edition_of, slots, key_class, edition_byte, last_write, rule1, sheet_size, mark_at, field_at, slot_count, mark, field, mark_number, mark_length, mark_check, written_mark, blank_slot, fit_slot, fit_in, fit, store_slot, store_last, first_eight, serial_header, blank_header, blank_slots, blank_sheet}
 use Rattle.captions.specs.Answers.{Outcome, outcome, answer_number, answer_length, change_point, answer_point}
 use Rattle.faults.specs.Faults.{zeros_before, first_set, faults, first_in, first_fault, header_point, fault_point}
-use Rattle.captions.specs.Captions.{pair, new_mark, key_mark, other_keys, slot_mark, sealed_field, check_of, opened_field, stored_as, written, opened, altered, change, cleared}
+use Rattle.captions.specs.Captions.{pair, new_mark, other_keys, slot_mark, sealed_field, check_of, opened_field, stored_as, written, opened, altered, change, cleared}
 use Rattle.captions.specs.Calls.{wrong_keys, other_class, key_tests, class_tests, sheet_tests, caption_tests, write_tests, window_tests, open_tests, read_tests, clear_tests, blank_tests, writing_with, clearing_with, reading_with, blanking_with, writing, clearing, reading, blanking}
-use Rattle.captions.specs.declared.Answer.{Answer}
 use Rattle.captions.specs.declared.Answer.TheVariants.{Accepted, Altered}
 use Rattle.captions.specs.declared.Change.TheVariants.{Check, Byte}
 use Rattle.terms.specs.Terms.{count, opening, closing, fit_terms, on_show}
 use Rattle.terms.proofs.Meaning.{reflects_terms}
-use Rattle.dated.specs.Calls.{dated_number, dated_length, dated_point, of_terms, dated_outcome, undated, dated_tests, dating_with, dating}
+use Rattle.dated.specs.Calls.{dated_number, dated_length, dated_point, dated_outcome, undated, dated_tests, dating_with, dating}
 use Rattle.dated.proofs.Open.{one_day}
 use Rattle.calendar.specs.Calendar.{day_of_date, date_of_day}
 use Rattle.calendar.specs.Calendar as Calendar
 use Rattle.calendar.proofs.Laws.{calendar_laws}
 use Rattle.listing.specs.Ascii.{ascii}
 use Rattle.listing.specs.Listing.{digits, decimal, line, head_line, blank_line, written_line, slot_line, slot_lines, key_bits, listable, listing, listed}
-use Rattle.exhibits.specs.Values.{sealing_key, checking_key, block, encrypted_block, decrypted_block, wanted, leading, abc, abc_check, new_sheet, blank_one, abc_field, abc_mark, two_mark, written_one, check_changed, length_two, cleared_one, nearly_worn, last_field, last_mark, worn_one, keys, ten_bytes, fifth_day}
+use Rattle.exhibits.specs.Values.{sealing_key, checking_key, block, wanted, leading, abc, abc_check, new_sheet, blank_one, abc_field, abc_mark, two_mark, written_one, check_changed, length_two, cleared_one, nearly_worn, last_field, last_mark, worn_one, keys, ten_bytes, fifth_day}
 use Rattle.exhibits.specs.Exhibits.{Exhibits}
 use Rattle.exhibits.proofs.Sealed.{loaded_keys, block_leads, text_checked, mark_made, field_sealed, field_opened, field_checked, two_checked, last_sealed, last_checked}
 

@@ -1,24 +1,23 @@
 -- The first fault is what its record says.
 use Prim.Native.Nat.{ℕ, zero, suc, ◌+◌, ◌-◌, ◌*◌, ◌/◌, ◌%◌, ◌≤◌, ◌<◌}
-use mathlib.Core.Path.{◌≡◌, refl, sym, ap, ap₂, ◌∙◌, subst}
+use mathlib.Core.Path.{◌≡◌, refl, sym, ap, ◌∙◌, subst}
 use mathlib.Core.Bool.{Bool, true, false, not, ◌&&◌, ◌||◌, false≢true}
-use mathlib.Core.List.{List, [], ◌∷◌, ◌++◌}
-use mathlib.Core.Logic.{◌↔◌, ◌⊎◌, inl, inr}
+use mathlib.Core.List.{List, ◌∷◌}
+use mathlib.Core.Logic.{◌⊎◌, inl, inr}
 use native.Mathlib.Omega.{arith}
 use native.Mathlib.Decide.{dec_le}
 use borrow.Author.Tests.{eq-eqb, ne_eqb, eqb-true, lt-ltb, le-ltb, ltb-true, ltb-false, not-true, not-false}
-use lib.Dec.{eqb, leb, ltb}
-use lib.ListN.{length, get_or}
-use Rattle.octets.specs.Bytes.{if◌then◌else◌, zeros, be, part, all_zero}
+use lib.Dec.{eqb, ltb}
+use lib.ListN.{length}
+use Rattle.octets.specs.Bytes.{if◌then◌else◌, part, all_zero}
 use Rattle.octets.specs.Outcome.{Row, ◌gives◌}
-use Rattle.octets.specs.Clauses.{Each, none, and}
 use Rattle.octets.proofs.Bool.{and_left, and_right, and_both}
-use Rattle.octets.proofs.Clauses.{Reflects, reflects_not, reflects_and, reflects_or, reflects_as, reflects_eqb, reflects_leb, reflects_ltb, reflects_yes}
+use Rattle.octets.proofs.Clauses.{Reflects, reflects_not, reflects_and, reflects_or, reflects_eqb, reflects_leb, reflects_yes}
 use Rattle.cipher.specs.Key.{mcrypton_class, class_known}
-use Rattle.layout.specs.Layout.{Edition, edition1, edition2, edition_of, rule1, rule2, rule3, slots, key_class, edition_byte, last_write, slot_count, sheet_size, mark_number, mark_length, mark, blank_slot, fit_slot, fit}
+use Rattle.layout.specs.Layout.{Edition, edition_of, rule1, rule2, rule3, slots, key_class, edition_byte, last_write, slot_count, sheet_size, mark_number, mark_length, mark, blank_slot, fit_slot}
 use Rattle.layout.specs.Rules.{MeetsLayout}
-use Rattle.layout.proofs.Header.{edition_cases, count_low, count_high, count_within}
-use Rattle.layout.proofs.Fits.{Rules, Fits, fit_facts, fits_fit, length_mark}
+use Rattle.layout.proofs.Header.{edition_cases}
+use Rattle.layout.proofs.Fits.{Fits, fit_facts, fits_fit, length_mark}
 use Rattle.layout.proofs.Meaning.{reflects_class, reflects_fit}
 use Rattle.faults.specs.Faults.{Point, fault_point, header_point, mark_point, first_set, wrong_number, edition_known, slot_faults, faults, first_in, first_fault}
 use Rattle.faults.specs.First.{Breaks, order, short, count, class, edition, header_byte, size, number, caption, mark_byte}
@@ -31,7 +30,6 @@ use Rattle.faults.specs.declared.Fault.TheVariants.{Nothing, Header, Mark}
 use Rattle.faults.proofs.Places.{set_low, set_high, set_below, set_there, set_some, set_least}
 use Rattle.faults.proofs.Marks.{wrong_length, wrong_zeros, rows_fit, fit_number, fit_length, fit_zeros}
 use Rattle.faults.proofs.Table.{Ordered, end, row, Applies, here, there, Quiet, quiet_nothing, found, lowest, nothing_quiet}
-use Rattle.faults.proofs.Table as T
 
 -- a fault of s, with the numbers that point at it
 abbrev Broken : List ℕ → Fault → Type 0

@@ -1,5 +1,5 @@
 -- Laws of the header's faults, one for each way out of the search.
-use Prim.Native.Nat.{ℕ, ◌+◌, ◌≤◌, ◌<◌}
+use Prim.Native.Nat.{ℕ, ◌≤◌, ◌<◌}
 use mathlib.Core.Path.{◌≡◌, refl, sym, ap, ◌∙◌}
 use mathlib.Core.Bool.{Bool, true, false, not, ◌&&◌}
 use mathlib.Core.List.{List}
@@ -10,7 +10,6 @@ use lib.Dec.{eqb}
 use lib.ListN.{length, get_or}
 use Rattle.octets.specs.Bytes.{if◌then◌else◌, number, part, all_zero}
 use Rattle.octets.specs.Outcome.{decided}
-use Rattle.octets.proofs.Bool.{and_right}
 use Rattle.layout.specs.Layout.{edition_of, slots, key_class, edition_byte, slot_count, sheet_size}
 use Rattle.layout.proofs.Header.{edition_read}
 use Rattle.faults.specs.Faults.{edition_known, first_set, first_in, faults, first_fault}

@@ -1,17 +1,17 @@
 -- Laws of the slots' faults: which of its rules a slot breaks that is neither blank nor written, and that a fit slot breaks none.
-use Prim.Native.Nat.{ℕ, zero, suc, ◌+◌, ◌-◌, ◌≤◌, ◌<◌}
+use Prim.Native.Nat.{ℕ, suc, ◌+◌, ◌-◌, ◌≤◌, ◌<◌}
 use mathlib.Core.Path.{◌≡◌, refl, sym, ap, ◌∙◌}
-use mathlib.Core.Bool.{Bool, true, false, not, ◌&&◌, ◌||◌, false≢true}
+use mathlib.Core.Bool.{Bool, true, false, not, ◌&&◌, ◌||◌}
 use mathlib.Core.List.{List}
 use native.Mathlib.Omega.{arith}
 use borrow.Author.Tests.{eqb-true, lt-ltb, le-ltb, le-leb, lt-leb, leb-true, ltb-false, not-true, not-false}
-use lib.Dec.{eqb, leb, ltb}
+use lib.Dec.{leb, ltb}
 use lib.ListN.{length, get_or}
 use Rattle.octets.specs.Bytes.{number, part, all_zero}
-use Rattle.octets.proofs.Bool.{and_left, and_right, and_both, not_both}
+use Rattle.octets.proofs.Bool.{and_left, and_right, not_both}
 use Rattle.octets.proofs.Parts.{part_part, part_span, get_or_part, length_part}
 use Rattle.octets.proofs.Zeros.{all_zero_part}
-use Rattle.layout.specs.Layout.{Edition, edition_of, slots, last_write, mark_number, mark_length, written_mark, sheet_size, mark_at, mark, field, blank_slot, fit_slot}
+use Rattle.layout.specs.Layout.{Edition, edition_of, slots, last_write, mark_number, mark_length, written_mark, mark_at, mark, blank_slot, fit_slot}
 use Rattle.layout.specs.Shape.{SlotIn, SheetOf}
 use Rattle.layout.specs.declared.Shape.{Shape}
 use Rattle.layout.proofs.Fits.{Written, mark_written, written_mark_lem}
@@ -23,7 +23,7 @@ use Rattle.faults.specs.declared.MarkRule.{MarkRule}
 use Rattle.faults.specs.declared.MarkRule.TheVariants.{Number, Length, Zero}
 use Rattle.faults.specs.declared.Fault.{Fault}
 use Rattle.faults.specs.declared.Fault.TheVariants.{Nothing, Mark}
-use Rattle.faults.proofs.Places.{set_low, set_below, set_there, set_some, set_least}
+use Rattle.faults.proofs.Places.{set_low, set_below, set_there, set_least}
 
 -- ---- the rows of slot i
 

@@ -1,5 +1,5 @@
 -- Which rule of the layout a sheet breaks first (document 02, request 5), and the numbers that point there.
-use Rattle.std.specs.Prelude.{ℕ, zero, suc, ◌+◌, ◌*◌, Bool, not, ◌&&◌, ◌||◌, List, [], ◌∷◌, eqb, leb, ltb, length}
+use Rattle.std.specs.Prelude.{ℕ, zero, suc, ◌+◌, Bool, not, ◌&&◌, ◌||◌, List, [], ◌∷◌, eqb, leb, ltb, length}
 use Rattle.octets.specs.Bytes.{part, all_zero}
 use Rattle.octets.specs.Outcome.{Row, ◌gives◌, decided}
 use Rattle.layout.specs.Layout.{Edition, edition_of, slots, key_class, edition_byte, last_write, sheet_size, slot_count, mark_number, mark_length, mark, blank_slot}

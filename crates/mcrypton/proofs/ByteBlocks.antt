@@ -1,7 +1,7 @@
 -- Encrypting and decrypting on bytes: blocks go to blocks, and each undoes the other, by any path numbers.
 use mathlib.Core.Path.{◌≡◌, refl, sym, ap, ◌∙◌, subst}
 use mathlib.Core.Bool.{Bool, true, false, ◌||◌}
-use mathlib.Core.List.{List, [], ◌∷◌}
+use mathlib.Core.List.{List}
 use Prim.Native.Nat.{ℕ, ◌/◌, ◌%◌, ◌<◌}
 use native.Mathlib.Omega.{arith}
 use lib.Dec.{eqb}
@@ -10,8 +10,8 @@ use borrow.Author.Tests.{eqb-true}
 use Rattle.octets.specs.Bytes.{Bytes, none, more}
 use Rattle.rounds.specs.Array.{Block, words}
 use Rattle.rounds.proofs.Blocks.{block_φ}
-use Rattle.schedule.specs.Schedule.{Count, four, six, eight, Words, Key, encryption_key, decryption_key}
-use Rattle.mcrypton.specs.Cipher.{after, steps, encrypt_block, decrypt_block}
+use Rattle.schedule.specs.Schedule.{Count, four, six, eight, Words, Key}
+use Rattle.mcrypton.specs.Cipher.{steps, encrypt_block, decrypt_block}
 use Rattle.mcrypton.specs.Bytes.{key_length, words_of, bytes_of, encrypt_bytes, decrypt_bytes}
 use Rattle.mcrypton.proofs.WordsOf.{length_words, four_words_lem, by_four, words_bytes, bytes_words, words_of_lem}
 use Rattle.mcrypton.proofs.Opens.{decrypt_encrypt, encrypt_decrypt}

@@ -1,10 +1,10 @@
 -- The steps of one direction undo those of the other, where its round keys are φ of the other's reversed.
-use mathlib.Core.Path.{◌≡◌, refl, sym, ap, ap₂, ◌∙◌, subst}
+use mathlib.Core.Path.{◌≡◌, sym, ap, ap₂, ◌∙◌, subst}
 use mathlib.Core.List.{List}
 use Prim.Native.Nat.{ℕ, zero, suc, ◌-◌, ◌≤◌}
 use native.Mathlib.Nat.{le_of_suc-le, le_refl}
 use native.Mathlib.Omega.{arith}
-use Rattle.rounds.specs.Array.{Block, opposite, τ, π, γ, σ, φ, nibble_round}
+use Rattle.rounds.specs.Array.{Block, opposite, π, γ, σ, φ, nibble_round}
 use Rattle.rounds.specs.declared.Direction.{Direction}
 use Rattle.rounds.specs.declared.Direction.TheVariants.{Encrypt, Decrypt}
 use Rattle.rounds.proofs.Blocks.{block_σ, block_τ, block_φ, σ_σ, φ_σ, φ_φ, round_back}

@@ -7,11 +7,11 @@ use native.Mathlib.Omega.{arith}
 use lib.Dec.{eqb}
 use lib.Pow.{field, mod-mod-pow}
 use Rattle.octets.specs.Bytes.{if◌then◌else◌}
-use Rattle.rounds.specs.Array.{nibble_round, word_round, φ}
+use Rattle.rounds.specs.Array.{nibble_round}
 use Rattle.rounds.specs.declared.Direction.{Direction}
 use Rattle.rounds.proofs.Paths.{same_round}
 use Rattle.mcrypton.specs.Claims.{PathBits}
-use Rattle.mcrypton.specs.Cipher.{Round, by_words, chosen, after_by, path_round, after, steps}
+use Rattle.mcrypton.specs.Cipher.{Round, by_words, after_by, path_round, after, steps}
 
 either : (t : Bool) {x y : List ℕ} → x ≡ y → (if t then x else y) ≡ y
 either true e = e

@@ -1,6 +1,5 @@
 -- Cases A to M of document 01 as one table, of the definitions themselves.
 use Rattle.std.specs.Prelude.{ℕ, ◌≡◌, List, [], ◌∷◌, replicate}
-use Rattle.rounds.specs.Word.{row, nibble}
 use Rattle.rounds.specs.Array.{sbox, π, φ, nibble_round, word_round}
 use Rattle.rounds.specs.declared.Direction.TheVariants.{Encrypt}
 use Rattle.schedule.specs.Schedule.{Count, sub_word, register, back_register, encryption_key, decryption_key}

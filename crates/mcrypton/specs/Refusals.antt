@@ -1,5 +1,5 @@
 -- Demand 1, of the calls on one block: which number a call answers, and what it leaves.
-use Rattle.std.specs.Prelude.{ℕ, ◌≡◌, List, [], ◌∷◌, replicate}
+use Rattle.std.specs.Prelude.{ℕ, ◌≡◌, [], ◌∷◌, replicate}
 use Rattle.octets.specs.Bytes.{zeros}
 use Rattle.octets.specs.BlockCalls.{Refusals}
 use Rattle.mcrypton.specs.Bytes.{encrypt_bytes, decrypt_bytes}

@@ -1,15 +1,14 @@
 -- The outcome of a call on one block, by the tests that the code makes, and that it answers by its clauses.
 use mathlib.Core.Path.{◌≡◌, refl, sym, ap, ◌∙◌}
-use mathlib.Core.Bool.{Bool, true, false, not, ◌&&◌}
-use mathlib.Core.List.{List, [], ◌∷◌}
+use mathlib.Core.Bool.{Bool, true, false}
+use mathlib.Core.List.{List}
 use Prim.Native.Nat.{ℕ}
 use native.Mathlib.Omega.{arith}
-use lib.Dec.{eqb}
 use lib.ListN.{length}
 use borrow.Author.Tests.{eq-eqb, ne_eqb}
 use Rattle.octets.specs.Outcome.{Outcome, decided}
 use Rattle.octets.specs.Bytes.{put}
-use Rattle.octets.specs.Clauses.{Exactly, OneOf}
+use Rattle.octets.specs.Clauses.{OneOf}
 use Rattle.octets.specs.BlockCalls.{block_number, block_outcome, block_tests, block_call, block_clauses, Leaves, Refusals}
 use Rattle.octets.specs.declared.BlockAnswer.TheVariants.{Accepted, WrongKey, WrongSpan}
 use Rattle.octets.proofs.Parts.{put_all}

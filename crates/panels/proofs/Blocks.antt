@@ -1,5 +1,5 @@
 -- Laws of the steps: counter blocks as words, one after the other, and the panel added to what they are encrypted to.
-use Rattle.std.proofs.Common.{◌≡◌, ℕ, zero, suc, ◌+◌, ◌-◌, ◌*◌, ◌/◌, ◌%◌, ◌^◌, ◌<◌, ◌≤◌, List, [], ◌∷◌, ◌++◌, map, length, get_or, take, drop, set, sym, refl, ap, ◌∙◌, ap₂, append_assoc, append-nil, add-one, arith, length-drop, drop_of_length-le, length-take-le, take_all, get_or-set_other, get_or-take, get_or-set_same, drop-drop, take-suc-set}
+use Rattle.std.proofs.Common.{◌≡◌, ℕ, ◌+◌, ◌-◌, ◌*◌, ◌/◌, ◌%◌, ◌^◌, ◌<◌, ◌≤◌, List, [], ◌∷◌, ◌++◌, map, length, get_or, take, drop, set, sym, refl, ap, ◌∙◌, ap₂, append_assoc, append-nil, add-one, arith, length-drop, drop_of_length-le, length-take-le, take_all, get_or-set_other, get_or-take, get_or-set_same, drop-drop, take-suc-set}
 use native.Mathlib.Decide.{dec_lt}
 use lib.Bits.{bit_xor}
 use lib.ListN.{length-map, get_or-append}

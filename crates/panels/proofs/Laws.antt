@@ -28,7 +28,7 @@ use Rattle.panels.specs.Calls.{panel_number, panel_outcome, panel_tests, panelli
 use Rattle.panels.specs.Laws.{counter_block, key_block, Sealed, panel_clauses, PanelCalls, PanelAnswers, Panels}
 use Rattle.panels.specs.declared.PanelAnswer.TheVariants.{Accepted}
 use Rattle.panels.proofs.Stream.{ctr_bytes, size, byte, twice}
-use Rattle.panels.proofs.Calls.{wrong_key_lem, wrong_span, overlong, accepts}
+use Rattle.panels.proofs.Calls.{wrong_span, overlong, accepts}
 
 -- ---- counter blocks
 

@@ -1,11 +1,11 @@
 -- What a refusal points at is what the record says.
-use Prim.Native.Nat.{ℕ, ◌+◌, ◌-◌, ◌≤◌, ◌<◌}
+use Prim.Native.Nat.{ℕ, ◌-◌, ◌≤◌}
 use mathlib.Core.Path.{◌≡◌, refl, sym, ap, ◌∙◌, subst}
 use mathlib.Core.Bool.{Bool, true, false, not, ◌||◌, false≢true}
 use mathlib.Core.List.{List, [], ◌∷◌}
 use native.Mathlib.Omega.{arith}
-use lib.Dec.{eqb, leb, ltb}
-use lib.ListN.{length, get_or, drop, length-drop}
+use lib.Dec.{eqb, leb}
+use lib.ListN.{length, drop, length-drop}
 use lib.Seq.{take_all}
 use borrow.Author.Tests.{eqb-false, leb-false, not-true, not-false}
 use Rattle.octets.specs.Bytes.{if◌then◌else◌, Bytes, zeros, part, all_zero, same}
@@ -13,14 +13,13 @@ use Rattle.octets.specs.Outcome.{Row, ◌gives◌, decided}
 use Rattle.octets.proofs.Clauses.{reflects_same}
 use Rattle.octets.proofs.EveryByte.{part_bytes}
 use Rattle.modes.specs.Laws.{ByteBlocks}
-use Rattle.layout.specs.Layout.{Edition, edition_of, slots, key_class, last_write, mark_number, mark_length, mark_check, field_at, mark, field, blank_slot, fit_in, fit}
-use Rattle.layout.specs.Rules.{MeetsLayout}
+use Rattle.layout.specs.Layout.{edition_of, slots, key_class, last_write, mark_number, mark_length, mark_check, field_at, mark, field, blank_slot, fit_in, fit}
 use Rattle.layout.proofs.Fits.{Rules, fit_rules, fits_class, not_blank_written, written_length, length_field}
 use Rattle.layout.proofs.Meaning.{reflects_fit}
-use Rattle.faults.specs.Faults.{Point, point, fault_point, first_fault, first_set}
+use Rattle.faults.specs.Faults.{Point, point, first_fault, first_set}
 use Rattle.faults.proofs.Laws.{first_fault_law}
 use Rattle.faults.proofs.Places.{set_low, set_below, set_there, set_before}
-use Rattle.captions.specs.Answers.{Outcome, outcome, answer_number, answer_length, answer_point, change_point}
+use Rattle.captions.specs.Answers.{Outcome, outcome, answer_number, answer_point, change_point}
 use Rattle.captions.specs.Captions.{Keys, Ciphers, loaded_for, start_block, check_of, opened_field, opened, altered, change}
 use Rattle.captions.specs.Calls.{key_tests, other_class, caption_tests, class_tests, sheet_tests, window_tests, open_tests, write_tests, clear_tests, read_tests, blank_tests, writing_with, clearing_with, reading_with, blanking_with, writing, clearing, reading, blanking}
 use Rattle.captions.specs.Claim.{Sound}
@@ -37,7 +36,7 @@ use Rattle.exhibits.proofs.Exhibits.{exhibits}
 use Rattle.octets.proofs.Plain.{plain as plain_bytes}
 use Rattle.demands.specs.Ciphers.{by_paths}
 use Rattle.demands.proofs.Ciphers.{loaded_paths, paths_sound, classes_by_cipher}
-use Rattle.pointing.specs.Pointing.{AtFault, FirstLeft, CheckAgrees, AtChange, Points, PointsAtTerms, Never, Pointing}
+use Rattle.pointing.specs.Pointing.{FirstLeft, AtChange, Points, PointsAtTerms, Never, Pointing}
 
 -- a table, row by row
 walk : {O B : Type 0} (Q : O → Type 0) (t : Bool) (a : B) (rows : List (Row B)) (x : O) (f : B → O)

@@ -1,5 +1,5 @@
 -- What is proved of the running order: which text is printed, which slots have a line, what a line says, in what order they stand, how the text is read back, and what a call does.
-use Rattle.std.specs.Prelude.{ℕ, ◌+◌, ◌≤◌, ◌<◌, ◌≡◌, List, [], ◌∷◌, ◌++◌, map, ◌↔◌, ◌⊎◌, eqb, length, get_or, take, drop, replicate}
+use Rattle.std.specs.Prelude.{ℕ, ◌≤◌, ◌<◌, ◌≡◌, List, [], ◌∷◌, ◌++◌, map, ◌↔◌, ◌⊎◌, eqb, length, get_or, take, drop, replicate}
 use Rattle.octets.specs.Bytes.{if◌then◌else◌, Bytes}
 use Rattle.octets.specs.Clauses.{◌when◌, Exactly}
 use Rattle.octets.specs.BlockCalls.{Leaves}

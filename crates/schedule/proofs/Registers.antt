@@ -1,21 +1,19 @@
 -- The backward register after r steps back is the forward one at round 12 - r, and the round keys follow.
 use mathlib.Core.Path.{◌≡◌, refl, sym, ap, ap₂, ◌∙◌, subst}
 use mathlib.Core.List.{List, [], ◌∷◌}
-use mathlib.Core.Logic.{◌⊎◌, inl, inr}
 use Prim.Native.Nat.{ℕ, zero, suc, ◌+◌, ◌-◌, ◌≤◌, ◌<◌}
 use native.Mathlib.Omega.{arith}
 use native.Mathlib.Numerals.{add-one}
 use native.Mathlib.Nat.{le_of_suc-le}
 use lib.ListN.{get_or, length, get_or-eq_default}
 use lib.Bits.{xor_lt}
-use lib.Dec.{T, lit<, ltb, ltb→lt}
+use lib.Dec.{lit<, ltb, ltb→lt}
 use Rattle.octets.proofs.Test.{below}
-use Rattle.rounds.specs.Word.{nibble}
 use Rattle.rounds.specs.Array.{Block, words, φ}
 use Rattle.rounds.proofs.Xor4.{cases4}
 use Rattle.rounds.proofs.Blocks.{nibble_lt}
 use Rattle.rounds.specs.Word.{rotate}
-use Rattle.schedule.specs.Schedule.{Count, four, six, eight, Words, Key, by_count, forward4, forward6, forward8, forward_words, forward, backward4, backward6, backward8, backward_words, backward, eight_words, start, start4, start6, start8, start_words, back_start, times, register, back_register, constants, kept, last_word, register_t, round_key, encryption_key, decryption_key}
+use Rattle.schedule.specs.Schedule.{Count, four, six, eight, Words, Key, by_count, forward4, forward6, forward8, forward_words, forward, backward4, backward6, backward8, backward_words, backward, eight_words, start, start4, start6, start8, start_words, back_start, times, register, back_register, constants, kept, last_word, round_key, encryption_key, decryption_key}
 use Rattle.schedule.specs.declared.Register.{Register}
 use Rattle.rounds.proofs.Rotation.{rotate_add, rotate16, rotate_lt}
 

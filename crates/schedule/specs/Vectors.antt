@@ -1,5 +1,5 @@
 -- The encryption keys of one key, as the second program prints them (`reference vectors keys`, t = 4).
-use Rattle.std.specs.Prelude.{◌≡◌, List, [], ◌∷◌, map, ℕ}
+use Rattle.std.specs.Prelude.{◌≡◌, [], ◌∷◌, map}
 use Rattle.schedule.specs.Schedule.{encryption_key}
 
 pub record KeyVectors : Type 0 where

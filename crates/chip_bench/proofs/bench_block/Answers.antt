@@ -1,4 +1,4 @@
-use borrow.Author.Tests.{not-true, not-false}
+use borrow.Author.Tests.{not-false}
 use Rattle.chip_bench.proofs.Calls.{wrong_key_lem, wrong_array, wrong_output, no_round, accepted}
 use borrow.Author.Rules.{rules}
 use Rattle.chip_bench.proofs.bench_block.Goals as goal

@@ -1,6 +1,6 @@
 -- `dated::read_fit` meets its contract.
 use borrow.Author.Rules.{rules}
-use borrow.Author.Tests.{not-true, not-false}
+use borrow.Author.Tests.{not-false}
 use Rattle.dated.proofs.Read.{header_inside, terms_found, fit_terms_lem, fit_class, fit_late, fit_mark, fit_shown}
 use Rattle.dated.proofs.read_fit.Goals as goal
 

@@ -1,6 +1,5 @@
 -- `dated::read_shown` meets its contract.
 use borrow.Author.Rules.{rules}
-use borrow.Author.Tests.{not-true, not-false}
 use Rattle.dated.proofs.Read.{header_inside, slot_there, terms_placed, slot_below, written, shown_slot, shown_blank, shown_off, shown_made}
 use Rattle.dated.proofs.read_shown.Goals as goal
 

@@ -1,6 +1,5 @@
 -- `faults::size_fault` meets its contract.
 use borrow.Author.Rules.{rules}
-use borrow.Author.Tests.{not-true, not-false}
 use Rattle.layout.proofs.Fits.{header_inside, sheet_of}
 use Rattle.faults.proofs.Header.{size_wrong, size_right}
 use Rattle.faults.proofs.size_fault.Goals as goal

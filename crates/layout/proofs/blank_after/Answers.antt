@@ -1,6 +1,5 @@
 -- `layout::blank_after` meets its contract.
 use borrow.Author.Rules.{rules}
-use borrow.Author.Tests.{not-true, not-false}
 use Rattle.layout.specs.Layout.{sheet_size, mark_at, field_at}
 use Rattle.layout.proofs.Marks.{blank_numbers, blank_check, blank_rest}
 use Rattle.layout.proofs.blank_after.Goals as goal

@@ -1,6 +1,5 @@
 -- `layout::blank_slot` meets its contract.
 use borrow.Author.Rules.{rules}
-use borrow.Author.Tests.{not-true, not-false}
 use Rattle.layout.specs.Layout.{sheet_size, mark_at, field_at}
 use Rattle.layout.proofs.Slots.{blank_no, blank_field}
 use Rattle.layout.proofs.blank_slot.Goals as goal

@@ -1,6 +1,5 @@
 -- `layout::fit_sheet` meets its contract.
 use borrow.Author.Rules.{rules}
-use borrow.Author.Tests.{not-true, not-false}
 use Rattle.layout.proofs.Fits.{fit_short, fit_size, header_inside, fit_rule, fit_slots, sheet_of}
 use Rattle.layout.proofs.fit_sheet.Goals as goal
 

@@ -1,5 +1,4 @@
 -- `layout::fit_size` meets its contract.
-use borrow.Author.Tests.{not-true, not-false}
 use Rattle.layout.proofs.Header.{count_few, size_few, size_count, size_found}
 use Rattle.layout.proofs.fit_size.Goals as goal
 

@@ -1,6 +1,5 @@
 -- `layout::header_rule` meets its contract.
 use borrow.Author.Rules.{rules}
-use borrow.Author.Tests.{not-true, not-false}
 use Rattle.layout.proofs.Header.{header_byte, header_long, two_long, rule_other, rule_two, rule_three, rule_one}
 use Rattle.layout.proofs.header_rule.Goals as goal
 

@@ -1,4 +1,3 @@
-use borrow.Author.Tests.{not-true, not-false}
 use mathlib.Core.Path.{ap}
 use Rattle.schedule.specs.Schedule.{start, register, encryption_key}
 use Rattle.mcrypton.specs.Bytes.{words_of, encrypt_bytes}

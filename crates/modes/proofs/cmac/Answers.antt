@@ -1,5 +1,5 @@
 -- `modes::cmac` meets its contract.
-use borrow.Author.Tests.{not-true, not-false}
+use borrow.Author.Tests.{not-false}
 use borrow.Author.Rules.{rules}
 use Rattle.modes.proofs.Authentication.{no_block_first}
 use Rattle.modes.proofs.Answers.{refused_key, refused_span, accepted}

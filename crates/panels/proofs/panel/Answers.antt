@@ -1,5 +1,5 @@
 -- `panels::panel` meets its contract.
-use borrow.Author.Tests.{not-true, not-false}
+use borrow.Author.Tests.{not-false}
 use Rattle.std.proofs.Common.{rules}
 use Rattle.panels.proofs.Calls.{round_0, wrong_key_lem, wrong_span, overlong, accepted}
 use Rattle.panels.proofs.panel.Goals as goal

@@ -1,6 +1,6 @@
 -- `running_order::gather_slot` meets its contract.
 use borrow.Author.Rules.{rules}
-use borrow.Author.Tests.{not-true, not-false}
+use borrow.Author.Tests.{not-true}
 use Rattle.running_order.proofs.Numbers.{gather_none, gather_one}
 use Rattle.running_order.proofs.gather_slot.Goals as goal
 

@@ -1,6 +1,6 @@
 -- `running_order::put_order` meets its contract.
 use borrow.Author.Rules.{rules}
-use borrow.Author.Tests.{not-true, not-false}
+use borrow.Author.Tests.{not-false}
 use Rattle.running_order.proofs.Whole.{append_unfit, sheet_header, sheet_of, append_unfit_terms, terms_of, open_days, append_no_date, append_order}
 use Rattle.running_order.proofs.put_order.Goals as goal
 

@@ -1,4 +1,3 @@
-use borrow.Author.Tests.{not-true, not-false}
 use Rattle.verdicts.proofs.Verdicts.{blank_class, blank_small, blank_keys, blank_span, blank_size}
 use Rattle.verdicts.proofs.blank_verdict.Goals as goal
 

@@ -1,4 +1,3 @@
-use borrow.Author.Tests.{not-true, not-false}
 use Rattle.verdicts.proofs.Verdicts.{wrong_sealing, wrong_checking, lengths_same, lengths_differ}
 use Rattle.verdicts.proofs.wrong_keys.Goals as goal
 

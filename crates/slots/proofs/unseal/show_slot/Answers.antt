@@ -1,6 +1,5 @@
 -- `slots::unseal::show_slot` meets its contract.
 use borrow.Author.Rules.{rules}
-use borrow.Author.Tests.{not-true, not-false}
 use Rattle.octets.proofs.Zeros.{zeros_size}
 use Rattle.layout.specs.Layout.{sheet_size, mark_at}
 use Rattle.slots.proofs.Opening.{length_few, length_inside, shown_other_check, shown, shown_tail}
