@@ -118,6 +118,7 @@ fn can_list(sheet: &[u8]) -> bool
 }
 
 // The bits of a key of a class.
+#[tactic(auto, using(crate::proofs::Lengths::key_bytes_small))]
 fn key_bits(class: usize) -> usize
     requires { class < 256 }
     ensures { (result ≡ 8 * key_bytes class) × (result < 10000000000) }
