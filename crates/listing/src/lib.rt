@@ -13,6 +13,9 @@ const SPACE: u8 = 32;
 
 const LINE_FEED: u8 = 10;
 
+// The bytes of the largest sheet that is listed, 256 slots of edition 2 or 3.
+const LARGEST: usize = 53264;
+
 // The decimal digits of x from place `at`, the highest first; answers the place after them, as every function here that puts text.
 pub fn put_decimal(text: &mut [u8], at: usize, x: usize) -> usize
     requires { at + length (decimal x) ≤ length text.old }
@@ -104,17 +107,18 @@ fn put_slots(text: &mut [u8], at: usize, sheet: &[u8], h: Shape) -> usize
     next
 }
 
-// Whether a sheet is fit, and not above 53264 bytes.
+// Whether a sheet is fit, and not above the largest.
 fn can_list(sheet: &[u8]) -> bool
     ensures { result ≡ listable sheet.now }
 {
-    if 53264 < sheet.len() {
+    if LARGEST < sheet.len() {
         return false;
     }
     layout::fit_sheet(sheet)
 }
 
 // The bits of a key of a class.
+#[tactic(auto, using(crate::proofs::Lengths::key_bytes_small))]
 fn key_bits(class: usize) -> usize
     requires { class < 256 }
     ensures { (result ≡ 8 * key_bytes class) × (result < 10000000000) }

@@ -181,13 +181,13 @@ unfolding forms
 all_spelled =
     row spelled1
     (row spelled2
-    (row (spelled3 0xE0 0xE0 0xA0 0xBF (lit≤ tt) (lit≤ tt) (lit≤ tt) (lit≤ tt) (lit< tt) (inl (lit< tt)))
-    (row (spelled3 0xE1 0xEC 0x80 0xBF (lit≤ tt) (lit≤ tt) (lit≤ tt) (lit≤ tt) (lit< tt) (inl (lit< tt)))
-    (row (spelled3 0xED 0xED 0x80 0x9F (lit≤ tt) (lit≤ tt) (lit≤ tt) (lit≤ tt) (lit< tt) (inl (lit< tt)))
-    (row (spelled3 0xEE 0xEF 0x80 0xBF (lit≤ tt) (lit≤ tt) (lit≤ tt) (lit≤ tt) (lit< tt) (inr (lit< tt)))
-    (row (spelled4 0xF0 0xF0 0x90 0xBF (lit≤ tt) (lit≤ tt) (lit≤ tt) (lit< tt) (lit< tt))
-    (row (spelled4 0xF1 0xF3 0x80 0xBF (lit≤ tt) (lit≤ tt) (lit≤ tt) (lit< tt) (lit< tt))
-    (row (spelled4 0xF4 0xF4 0x80 0x8F (lit≤ tt) (lit≤ tt) (lit≤ tt) (lit< tt) (lit< tt))
+    (row (spelled3 _ _ _ _ (lit≤ tt) (lit≤ tt) (lit≤ tt) (lit≤ tt) (lit< tt) (inl (lit< tt)))
+    (row (spelled3 _ _ _ _ (lit≤ tt) (lit≤ tt) (lit≤ tt) (lit≤ tt) (lit< tt) (inl (lit< tt)))
+    (row (spelled3 _ _ _ _ (lit≤ tt) (lit≤ tt) (lit≤ tt) (lit≤ tt) (lit< tt) (inl (lit< tt)))
+    (row (spelled3 _ _ _ _ (lit≤ tt) (lit≤ tt) (lit≤ tt) (lit≤ tt) (lit< tt) (inr (lit< tt)))
+    (row (spelled4 _ _ _ _ (lit≤ tt) (lit≤ tt) (lit≤ tt) (lit< tt) (lit< tt))
+    (row (spelled4 _ _ _ _ (lit≤ tt) (lit≤ tt) (lit≤ tt) (lit< tt) (lit< tt))
+    (row (spelled4 _ _ _ _ (lit≤ tt) (lit≤ tt) (lit≤ tt) (lit< tt) (lit< tt))
     no_row))))))))
 
 joined : {c s : List ℕ} → Point c → Encoded s → Encoded (c ++ s)

@@ -15,7 +15,7 @@ pub number4-rest-requires : goal.number4-rest-requires
 number4-rest-requires c = unfold sheet_size mark_at in search rules
 
 pub returns-then-number-eq0 : goal.returns-then-number-eq0
-returns-then-number-eq0 c = let a = c.args in slot_blank a.s.now a.h a.i c.requires.slot_in (λ k. omega (arith, c.shared_slice_known-1.given k)) _ c.mark_at-a.ensures _ c.number4-number.ensures.0 _ c.number4-rest.ensures.0 c.if-number-eq0.true _ c.blank_after.ensures
+returns-then-number-eq0 c = let a = c.args in slot_blank a.s.now a.h a.i c.requires.slot_in (λ k. omega (arith, c.type_inv.s k)) _ c.mark_at-a.ensures _ c.number4-number.ensures.0 _ c.number4-rest.ensures.0 c.if-number-eq0.true _ c.blank_after.ensures
 
 pub returns : goal.returns
-returns c = let a = c.args in slot_written a.s.now a.h a.i c.requires.slot_in (λ k. omega (arith, c.shared_slice_known-1.given k)) _ c.mark_at-a.ensures _ c.number4-number.ensures.0 _ c.number4-rest.ensures.0 c.if-number-eq0.false _ c.requires.w_value _ c.written_after.ensures
+returns c = let a = c.args in slot_written a.s.now a.h a.i c.requires.slot_in (λ k. omega (arith, c.type_inv.s k)) _ c.mark_at-a.ensures _ c.number4-number.ensures.0 _ c.number4-rest.ensures.0 c.if-number-eq0.false _ c.requires.w_value _ c.written_after.ensures
