@@ -5,7 +5,7 @@ use std::io;
 
 fn main(rt: HostRuntime) -> io::Result<()> {
     let mut sheet = [0u8; 53265];
-    let n = show::fill(&mut rt.reader(), &mut sheet);
+    let n = show::fill(&mut rt.stdin(), &mut sheet);
     let mut text = [0u8; 10553];
     let k = listing::list(&sheet[..n], &mut text);
     rt.write_all(&text[..k])

@@ -10,7 +10,8 @@ use std::io::Read;
 use std::rt::{Env, Files};
 
 // Reads the file that argument i names into buf and answers how many bytes it has: 0, which no sheet has, where there is no such
-// argument or no such file, where it has more bytes than buf, or where a read fails. The last two show in the read after.
+// argument or no such file, where its name is longer than any path or isn't UTF-8, as every path of std is, where it has more bytes
+// than buf, or where a read fails. The last two show in the read after.
 fn load<R: Env + Files>(rt: &R, i: usize, buf: &mut [u8]) -> usize
     ensures { (result ≤ length buf.new) × (result ≡ length (take result buf.new)) }
 {

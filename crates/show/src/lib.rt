@@ -2,6 +2,7 @@
 #![tactic(auto)]
 
 ghost use Rattle.std.specs.Prelude.{◌≡◌, ◌%◌, ◌<◌, ◌≤◌, length, take};
+ghost use Rattle.std.specs.Io.KnownBytes.{Consumes};
 ghost use Rattle.show.specs.Pattern.{patterned};
 
 use std::io;
@@ -41,17 +42,18 @@ pub fn text<R: Print>(rt: &R, s: &[u8]) -> io::Result<()> {
     rt.write_all(s)
 }
 
-// Reads until buf is full, the input ends or a read fails, and answers how many bytes that put at the start of buf.
+// Reads until buf is full, the input ends or a read fails, and answers how many bytes that put at the start of buf: those that the
+// input had next, and no others are taken from it.
 pub fn fill<F: Read>(input: &mut F, buf: &mut [u8]) -> usize
-    ensures { (result ≤ length buf.new) × (result ≡ length (take result buf.new)) }
+    ensures in_bounds { (result ≤ length buf.new) × (result ≡ length (take result buf.new)) }
+    ensures bytes { Consumes (F.remaining input.old) (F.remaining input.new) (take result buf.new) }
 {
     let mut done = 0;
     while done < buf.len() {
-        let n = input.read(&mut buf[done..]).unwrap_or(0);
-        if n == 0 {
-            break;
+        match input.read(&mut buf[done..]) {
+            Ok(0) | Err(_) => break,
+            Ok(n) => done += n,
         }
-        done += n;
     }
     done
 }
