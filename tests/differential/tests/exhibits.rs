@@ -93,13 +93,13 @@ fn key(size: usize) -> Vec<u8> {
 #[test]
 fn sheets() {
     let values = Specs::of("exhibits/specs/Values.antt");
-    assert_eq!(values.bytes("sealingKey"), SEALING);
-    assert_eq!(values.bytes("checkingKey"), CHECKING);
+    assert_eq!(values.bytes("sealing_key"), SEALING);
+    assert_eq!(values.bytes("checking_key"), CHECKING);
 
     let mut written = one_slot(0);
     assert_eq!(write(&SEALING, &CHECKING, &mut written, 0, ABC).number, 0);
-    assert_eq!(values.bytes("abcMark"), written[16..24]);
-    assert_eq!(values.bytes("abcField"), written[24..]);
+    assert_eq!(values.bytes("abc_mark"), written[16..24]);
+    assert_eq!(values.bytes("abc_field"), written[24..]);
 
     let mut plain = [0; 192];
     plain[..3].copy_from_slice(ABC);
@@ -108,12 +108,12 @@ fn sheets() {
         store_field(&SEALING, &CHECKING, &mut two, 0, 2, &plain).number,
         0
     );
-    assert_eq!(values.bytes("twoMark"), two[16..24]);
+    assert_eq!(values.bytes("two_mark"), two[16..24]);
     assert_eq!(two[24..], written[24..]);
 
     let mut changed = written.clone();
     changed[23] ^= 1;
-    assert_eq!(values.bytes("checkChanged"), changed[16..24]);
+    assert_eq!(values.bytes("check_changed"), changed[16..24]);
     let mut window = [7; 192];
     let pointed = |sheet: &[u8], window: &mut [u8]| {
         let answer = read(&SEALING, &CHECKING, sheet, 0, window);
@@ -124,8 +124,8 @@ fn sheets() {
 
     let mut worn = one_slot(u32::MAX - 1);
     assert_eq!(write(&SEALING, &CHECKING, &mut worn, 0, ABC).number, 0);
-    assert_eq!(values.bytes("lastMark"), worn[16..24]);
-    assert_eq!(values.bytes("lastField"), worn[24..]);
+    assert_eq!(values.bytes("last_mark"), worn[16..24]);
+    assert_eq!(values.bytes("last_field"), worn[24..]);
     assert_eq!(write(&SEALING, &CHECKING, &mut worn, 0, ABC).number, 8);
     broken_captions(&worn);
 
@@ -134,11 +134,11 @@ fn sheets() {
         blank(&mut blanked, 1, 4, 258, &SEALING, &CHECKING).number,
         0
     );
-    assert_eq!(values.bytes("newSheet"), blanked[10..16]);
+    assert_eq!(values.bytes("new_sheet"), blanked[10..16]);
 
     let mut out = [0; 8];
     assert_eq!(cmac(&SEALING, ABC, &mut out).number, 0);
-    assert_eq!(values.bytes("abcCheck"), out);
+    assert_eq!(values.bytes("abc_check"), out);
     assert_eq!(
         bench_block(&CHECKING, 1, &values.bytes("wanted"), &mut out).number,
         0
@@ -154,9 +154,9 @@ fn broken_captions(worn: &[u8]) {
     let (blank, overlong) = (&one_slot(0)[..], &[0xc3; 193][..]);
     for (field, sheet, slot, caption, number) in [
         ("broken", blank, 0, &[0xc3][..], 15),
-        ("broken-nowhere", blank, 1, &[0xc3], 6),
-        ("broken-long", blank, 0, overlong, 7),
-        ("broken-worn", worn, 0, &[0xc3], 15),
+        ("broken_nowhere", blank, 1, &[0xc3], 6),
+        ("broken_long", blank, 0, overlong, 7),
+        ("broken_worn", worn, 0, &[0xc3], 15),
     ] {
         assert_eq!(exhibits.made(field), [0xc3], "{field}");
         assert_eq!(exhibits.answered(field), number, "{field}");
@@ -183,13 +183,13 @@ fn keys_of_10_bytes() {
     old[2] = 21;
     let mut window = [7; 192];
     for (field, sheet, number, rule) in [
-        ("ten-short", &[1, 2, 3][..], 4, 1),
-        ("ten-bytes", &one_slot(0), 5, 0),
-        ("present-old", &old, 4, 3),
+        ("ten_short", &[1, 2, 3][..], 4, 1),
+        ("ten_bytes_lem", &one_slot(0), 5, 0),
+        ("present_old", &old, 4, 3),
     ] {
         let mut after = sheet.to_vec();
         let answer = match field {
-            "present-old" => read(&sealing, &checking, sheet, 0, &mut window),
+            "present_old" => read(&sealing, &checking, sheet, 0, &mut window),
             _ => write(&sealing, &checking, &mut after, 0, ABC),
         };
         let rules = [number, rule];
@@ -218,23 +218,23 @@ fn present() {
     };
     for (t, bits, size) in [(21, 80, 10), (24, 128, 16)] {
         for (name, key, block) in [
-            ("zero-zero", 0, 0),
-            ("ones-zero", 0xff, 0),
-            ("zero-ones", 0, 0xff),
-            ("ones-ones", 0xff, 0xff),
+            ("zero_zero", 0, 0),
+            ("ones_zero", 0xff, 0),
+            ("zero_ones", 0, 0xff),
+            ("ones_ones", 0xff, 0xff),
         ] {
             let (key, block) = (vec![key; size], [block; 8]);
             let (mut sealed, mut opened) = ([0; 8], [0; 8]);
             assert_eq!(present_encrypt_block(&key, &block, &mut sealed).number, 0);
             assert_eq!(present_decrypt_block(&key, &sealed, &mut opened).number, 0);
-            assert_eq!(bytes(&vectors, &format!("{name}-{bits}"), "\n"), sealed);
+            assert_eq!(bytes(&vectors, &format!("{name}_{bits}"), "\n"), sealed);
             assert_eq!(opened, block);
         }
         let key = vec![if bits == 80 { 0 } else { 0xff }; size];
         let mut out = [0; 8];
         assert_eq!(present_encrypt_block(&key, &[0; 8], &mut out).number, 0);
-        assert_eq!(calls.made(&format!("encrypt-{bits}")), out);
-        let made = calls.made(&format!("decrypt-{bits}"));
+        assert_eq!(calls.made(&format!("encrypt_{bits}")), out);
+        let made = calls.made(&format!("decrypt_{bits}"));
         let zeros = vec![0; size];
         assert_eq!(
             present_decrypt_block(&zeros, &made[..8], &mut out).number,
@@ -244,7 +244,7 @@ fn present() {
 
         let [sealing, checking] = [0, 16].map(|first| (first..).take(size).collect::<Vec<u8>>());
         let mark = key_mark(2, t, 0x5a04, &sealing, &checking).expect("a mark");
-        assert_eq!(bytes(&witnesses, &format!("present-{bits}"), "\n"), mark);
+        assert_eq!(bytes(&witnesses, &format!("present_{bits}"), "\n"), mark);
     }
     report("exhibits: PRESENT's 8 vectors, 4 calls on one block and 2 key marks");
 }
@@ -260,11 +260,11 @@ fn calls_with_a_key_of_each_size() {
         assert_eq!(blocks.bytes(&format!("key{t}")), key);
         let mut out = [0; 8];
         assert_eq!(encrypt_block(&key, &block, &mut out).number, 0);
-        assert_eq!(calls.made(&format!("encrypt-{t}")), out);
+        assert_eq!(calls.made(&format!("encrypt_{t}")), out);
         assert_eq!(decrypt_block(&key, &block, &mut out).number, 0);
-        assert_eq!(calls.made(&format!("decrypt-{t}")), out);
+        assert_eq!(calls.made(&format!("decrypt_{t}")), out);
         assert_eq!(cmac(&key, &[1, 2, 3, 4, 5, 6, 7, 8, 9], &mut out).number, 0);
-        assert_eq!(macs.made(&format!("mac-{t}")), out);
+        assert_eq!(macs.made(&format!("mac_{t}")), out);
     }
     let mut out = [0; 8];
     assert_eq!(cmac(&key(8), &[], &mut out).number, 0);
@@ -273,15 +273,15 @@ fn calls_with_a_key_of_each_size() {
     let bench = Specs::of("chip_bench/specs/Laws.antt");
     for (size, round) in [(8, 0), (12, 5), (16, 12)] {
         assert_eq!(bench_block(&key(size), round, &block, &mut out).number, 0);
-        assert_eq!(bench.made(&format!("round-{round}")), out);
+        assert_eq!(bench.made(&format!("round_{round}")), out);
     }
 
     // The first number stands in each field too, before the bytes.
     let panels = Specs::of("panels/specs/Laws.antt");
     for (size, name, text) in [
-        (8, "wraps-4", "bronzeAge"),
-        (12, "carries-6", "rome"),
-        (16, "counts-8", "rome"),
+        (8, "wraps_4", "bronze_age"),
+        (12, "carries_6", "rome"),
+        (16, "counts_8", "rome"),
     ] {
         let numbers = panels.numbers(&format!("pub {name} :"), "}");
         let (first, bytes) = numbers.split_first().expect("a first number");
@@ -291,7 +291,7 @@ fn calls_with_a_key_of_each_size() {
         let out: Vec<u64> = out.into_iter().map(u64::from).collect();
         assert_eq!(bytes, out, "{name}");
     }
-    assert_eq!(panels.bytes("bronzeAge"), b"Bronze Age.");
+    assert_eq!(panels.bytes("bronze_age"), b"Bronze Age.");
     assert_eq!(panels.bytes("rome"), b"Bronze Age. Rome.");
     report("exhibits: blocks, CMAC, the bench and panels with keys of 8, 12 and 16 bytes");
 }
@@ -317,7 +317,7 @@ fn round_keys_and_rounds() {
     };
     let rounds = Specs::of("rounds/specs/Vectors.antt");
     let all: Vec<u64> = [&keys[4..], &after(0), &after(12)].concat();
-    assert_eq!(rounds.numbers("roundsWith\n", "the end"), all);
+    assert_eq!(rounds.numbers("rounds_with\n", "the end"), all);
 
     // On the way every entry of every S-box is looked up: that of row j, column i
     // is in the box with index (i + j) mod 4.
