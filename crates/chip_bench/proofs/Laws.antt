@@ -20,7 +20,7 @@ use Rattle.octets.specs.BlockCalls.{Leaves}
 use Rattle.mcrypton.proofs.Paths.{any_path}
 use Rattle.mcrypton.proofs.WordsOf.{words_bytes, bytes_words}
 use Rattle.mcrypton.proofs.ByteBlocks.{key_words, block_words, length_bytes, bytes_bytes}
-use Rattle.mcrypton.proofs.Refusals.{reflects_length}
+use Rattle.mcrypton.proofs.KeyLengths.{reflects_length}
 use Rattle.chip_bench.specs.Bench.{taken_back, leading_block}
 use Rattle.chip_bench.specs.Calls.{bench_number, bench_outcome, bench_tests, benching}
 use Rattle.chip_bench.specs.Laws.{array_after, Arrays, OneBlock, bench_clauses, BenchCalls, Bench}
@@ -31,7 +31,7 @@ use Rattle.chip_bench.proofs.Leads.{block_back, leads, only}
 -- ---- which array is after which round
 
 arrays_are : (p : ℕ) (k b : List ℕ) → Arrays p k b
-unfolding after_by encrypt_bytes encrypt_block steps
+unfolding times after_by encrypt_bytes encrypt_block steps
 arrays_are p k b =
     record {
       first = refl;

@@ -12,7 +12,8 @@ use Rattle.schedule.specs.Schedule.{Key, Count, four, six, eight}
 use Rattle.schedule.proofs.Registers.{backwards, key_back, back_one}
 use Rattle.mcrypton.specs.Cipher.{steps, encrypt_block, decrypt_block}
 use Rattle.mcrypton.specs.Claims.{FirstHalf, FirstAsks}
-use Rattle.mcrypton.proofs.Paths.{same_after, path_bits}
+use Rattle.mcrypton.proofs.Paths.{same_after}
+use Rattle.mcrypton.proofs.PathBits.{path_bits}
 use Rattle.mcrypton.proofs.Opens.{decrypt_encrypt, encrypt_decrypt}
 
 pub first_half : (k : List ℕ) → Key k → FirstHalf k

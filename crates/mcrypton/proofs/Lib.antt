@@ -1,4 +1,5 @@
 pub mod Paths
+pub mod PathBits
 pub mod Opens
 pub mod Remaining
 pub mod WordsOf
@@ -7,5 +8,6 @@ pub mod Calls
 pub mod Table
 pub mod FirstHalf
 pub mod Vectors
+pub mod KeyLengths
 pub mod Refusals
 pub mod Each

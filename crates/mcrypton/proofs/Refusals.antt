@@ -1,21 +1,14 @@
 -- Demand 1, of the calls on one block, holds.
-use Prim.Native.Nat.{ℕ}
 use mathlib.Core.Path.{refl}
-use mathlib.Core.List.{[], ◌∷◌}
 use Rattle.octets.specs.Bytes.{zeros}
 use Rattle.octets.specs.Outcome.{decided}
-use Rattle.octets.specs.Clauses.{OneOf}
 use Rattle.octets.specs.BlockCalls.{block_outcome, block_tests, block_call}
-use Rattle.octets.proofs.Clauses.{Reflects, reflects_three}
 use Rattle.octets.proofs.BlockCalls.{refusals}
 use Rattle.mcrypton.specs.Bytes.{key_length, encrypt_bytes, decrypt_bytes}
 use Rattle.mcrypton.specs.Calls.{encrypting, decrypting}
 use Rattle.mcrypton.specs.Refusals.{BlockCalls, BlockRefusals}
+use Rattle.mcrypton.proofs.KeyLengths.{reflects_length}
 use Rattle.mcrypton.proofs.Vectors.{block_vectors}
-
-pub reflects_length : (n : ℕ) → Reflects (key_length n) (OneOf (8 ∷ 12 ∷ 16 ∷ []) n)
-unfolding key_length
-reflects_length n = reflects_three n 8 12 16
 
 -- accepted calls by the vectors, refused ones by their tests alone
 block_calls : BlockCalls
