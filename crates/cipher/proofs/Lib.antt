@@ -1,3 +1,4 @@
 pub mod Dispatch
 pub mod Promise
+pub mod Promised
 pub mod Field

@@ -1,4 +1,4 @@
--- A loaded key means the cipher of its class, mCrypton by any path or PRESENT, and keeps the promise about a block.
+-- A loaded key means the cipher of its class, mCrypton by any path or PRESENT, whose ways undo each other.
 use mathlib.Core.Path.{◌≡◌, refl, sym, ap, ◌∙◌, subst₂}
 use mathlib.Core.Bool.{Bool, true, false, ◌||◌}
 use mathlib.Core.List.{List, [], ◌∷◌}
@@ -25,7 +25,7 @@ use Rattle.present.specs.Registers.{Spells}
 use Rattle.present.proofs.Held.{words_encrypt_80, words_encrypt_128, words_decrypt_80, words_decrypt_128}
 use Rattle.present.proofs.ByteBlocks.{present}
 use Rattle.cipher.specs.Key.{mcrypton_class, present_class, class_known, key_bytes, loaded, key_register, mcrypton_encrypted, mcrypton_decrypted, encrypted, decrypted, encrypt_by, decrypt_by}
-use Rattle.cipher.specs.Promise.{ClassKey, ClassCiphers, Promise}
+use Rattle.cipher.specs.Promise.{ClassKey}
 
 -- the register of a key that is loaded for the class of its length
 loaded_register : (k : List ℕ) → key_register (loaded (length k / 2) k) ≡ start (words_of k)
@@ -212,7 +212,7 @@ module _ (class p : ℕ) (k b : List ℕ) where
   unfolding decrypt_by
   back_mcrypton h = rw h
 
-class_invertible : {class : ℕ} {k : List ℕ} → ClassKey class k → (p q : ℕ) → Invertible (encrypt_by class p k) (decrypt_by class q k)
+pub class_invertible : {class : ℕ} {k : List ℕ} → ClassKey class k → (p q : ℕ) → Invertible (encrypt_by class p k) (decrypt_by class q k)
 class_invertible {class} {k} h p q = go (present_class class) refl
   where
     known : present_class class ≡ false → mcrypton_class class ≡ true
@@ -229,26 +229,3 @@ class_invertible {class} {k} h p q = go (present_class class) refl
     go false e =
         subst₂ Invertible (λ i b. sym (by_mcrypton class p k b e) i) (λ i b. sym (back_mcrypton class q k b e) i)
         (mcrypton_invertible p q h.bytes (mcrypton_known_length k class (known e) h.size))
-
-pub class_ciphers : ClassCiphers
-unfolding encrypt_by decrypt_by present_class
-class_ciphers =
-    record {
-      class_4 = record { encrypts = λ p k b. refl; decrypts = λ p k b. refl };
-      class_6 = record { encrypts = λ p k b. refl; decrypts = λ p k b. refl };
-      class_8 = record { encrypts = λ p k b. refl; decrypts = λ p k b. refl };
-      class_21 = record { encrypts = λ p k b. refl; decrypts = λ p k b. refl };
-      class_24 = record { encrypts = λ p k b. refl; decrypts = λ p k b. refl };
-    }
-
-pub promise : {class : ℕ} {k : List ℕ} → ClassKey class k → Promise class k
-promise {class} {k} h =
-    record {
-      invertible =
-          subst₂ Invertible (λ i b. sym (class_encrypts class k h.size 0 b) i) (λ i b. sym (class_decrypts class k h.size 0 b) i)
-          (class_invertible h 0 0);
-      encrypts = class_encrypts class k h.size;
-      decrypts = class_decrypts class k h.size;
-      by_paths_lem = class_invertible h;
-      ciphers = class_ciphers;
-    }

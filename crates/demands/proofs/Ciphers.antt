@@ -15,7 +15,8 @@ use Rattle.present.specs.Present.{encrypt, decrypt}
 use Rattle.present_schedule.specs.Schedule.{round_key80, round_key128}
 use Rattle.present.proofs.Vectors.{vectors}
 use Rattle.cipher.specs.Key.{present_class, class_known, key_bytes, sheet_key_length, encrypt_by, decrypt_by}
-use Rattle.cipher.proofs.Promise.{class_encrypts, class_decrypts, class_ciphers, promise}
+use Rattle.cipher.proofs.Promise.{class_encrypts, class_decrypts}
+use Rattle.cipher.proofs.Promised.{class_ciphers, promise}
 use Rattle.layout.specs.Layout.{edition_of, key_class, blank_sheet}
 use Rattle.layout.proofs.Header.{rule_classes}
 use Rattle.layout.proofs.Fits.{fit_facts}

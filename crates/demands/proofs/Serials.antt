@@ -11,7 +11,8 @@ use mathlib.Core.List.{List}
 use native.Mathlib.Omega.{arith}
 use Rattle.cipher.specs.Key.{mcrypton_class, class_known}
 use Rattle.cipher.specs.Promise.{ClassKey}
-use Rattle.cipher.proofs.Promise.{mcrypton_known, promise}
+use Rattle.cipher.proofs.Promise.{mcrypton_known}
+use Rattle.cipher.proofs.Promised.{promise}
 use Rattle.layout.specs.Layout.{Edition, key_class, slot_count, fit, blank_sheet1}
 use Rattle.captions.specs.Captions.{Keys, Ciphers, key_mark, start_block, sealed_field}
 use Rattle.captions.specs.Runs.{finally}
