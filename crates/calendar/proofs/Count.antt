@@ -7,7 +7,7 @@ use native.Mathlib.Decide.{dec_lt}
 use native.Mathlib.Nat.{le_trans, le_of_eq}
 use lib.Dec.{ltb}
 use borrow.Author.Tests.{ltb-true, ltb-false}
-use Rattle.octets.specs.Bytes.{if◌then◌else◌}
+use Rattle.octets.specs.Bytes.{if◌then◌otherwise◌}
 use Rattle.calendar.specs.Calendar.{year_days, month_days, years_sum, months_sum, days_before_year, days_before_month, day_number, Date, first_date, day_after, month_after, year_after, next_date, date_of}
 use Rattle.calendar.specs.Laws.{Earlier, by_year, by_month, by_day}
 use Rattle.calendar.proofs.Months.{before_next, month_step, year_months, month_long}
@@ -53,7 +53,7 @@ pub next_cases : (P : Date → Type 0) (x : Date)
 unfolding next_date
 next_cases P x d m y = go (ltb x.day (month_days x.year x.month)) refl (ltb x.month 12) refl
   where
-    go : (a : Bool) → ltb x.day (month_days x.year x.month) ≡ a → (b : Bool) → ltb x.month 12 ≡ b → P (if a then day_after x else if b then month_after x else year_after x)
+    go : (a : Bool) → ltb x.day (month_days x.year x.month) ≡ a → (b : Bool) → ltb x.month 12 ≡ b → P (if a then day_after x otherwise if b then month_after x otherwise year_after x)
     go true e b f = d (ltb-true x.day (month_days x.year x.month) e)
     go false e true f = m (ltb-false x.day (month_days x.year x.month) e) (ltb-true x.month 12 f)
     go false e false f = y (ltb-false x.day (month_days x.year x.month) e) (ltb-false x.month 12 f)

@@ -6,7 +6,7 @@ use native.Mathlib.Omega.{arith}
 use native.Mathlib.Decide.{dec_lt}
 use lib.Dec.{T, eqb, leb, eqb→eq, leb→le}
 use borrow.Author.Tests.{lt-ltb, le-ltb, le-leb, lt-leb}
-use Rattle.octets.specs.Bytes.{if◌then◌else◌}
+use Rattle.octets.specs.Bytes.{if◌then◌otherwise◌}
 use Rattle.octets.proofs.Test.{every, below}
 use Rattle.calendar.specs.Calendar.{leap, year_days, month_days, months_sum, days_before_month}
 use Rattle.calendar.specs.Steps.{lacks, lacking, long_start, long_day, Holds}
@@ -76,7 +76,7 @@ module _ (y t : ℕ) where
   late_day h = rw (le-ltb t (days_before_month y 3) h)
 
   module _ (b : Bool) (e : b ≡ leap y) where
-    lacks_by : lacks y ≡ (if b then 1 else 2)
+    lacks_by : lacks y ≡ (if b then 1 otherwise 2)
     unfolding lacks
     lacks_by = rw e
 

@@ -7,7 +7,7 @@ use lib.Dec.{T, eqb, leb, eqb→eq}
 use borrow.Author.Tests.{eqb-true, eqb-false, le-leb, lt-leb, ne_eqb}
 use mir.Syntax.{w8, w16, w64}
 use mir.Val.{Fits}
-use Rattle.octets.specs.Bytes.{if◌then◌else◌}
+use Rattle.octets.specs.Bytes.{if◌then◌otherwise◌}
 use Rattle.calendar.specs.Calendar.{leap, month_days, days_before_year, days_before_month, day_number, is_date, day_of_date, date_of_day}
 use Rattle.calendar.specs.Answers.{day_outcome, date_outcome}
 use Rattle.calendar.specs.Steps.{InRange, lacks, lacking, long_start, long_day, Holds}
@@ -33,7 +33,7 @@ module _ (y : ℕ) where
       eqb→eq (30 + (suc k + suc k / 8) % 2) (month_days y (suc k))
       (subst (λ b. T (b || eqb (30 + (suc k + suc k / 8) % 2) (month_days y (suc k)))) (ne_eqb (suc k) 2 n) (by_turns k (omega arith)))
 
-  february : (b : Bool) → b ≡ leap y → (if b then 29 else 28) ≡ month_days y 2
+  february : (b : Bool) → b ≡ leap y → (if b then 29 otherwise 28) ≡ month_days y 2
   unfolding month_days
   february b e = rw e
 
@@ -42,14 +42,14 @@ module _ (y m d : ℕ) where
   in_other h g n = ap (leb d) (other_length y m h g n)
 
   module _ (h : m ≡ 2) (b : Bool) (e : b ≡ leap y) where
-    in_february : leb d (if b then 29 else 28) ≡ leb d (month_days y m)
+    in_february : leb d (if b then 29 otherwise 28) ≡ leb d (month_days y m)
     in_february = ap (leb d) (february y b e ∙ ap (month_days y) (sym h))
 
     pub in_leap : b ≡ true → leb d 29 ≡ leb d (month_days y m)
-    in_leap f = subst (λ b. leb d (if b then 29 else 28) ≡ leb d (month_days y m)) f in_february
+    in_leap f = subst (λ b. leb d (if b then 29 otherwise 28) ≡ leb d (month_days y m)) f in_february
 
     pub in_common : b ≡ false → leb d 28 ≡ leb d (month_days y m)
-    in_common f = subst (λ b. leb d (if b then 29 else 28) ≡ leb d (month_days y m)) f in_february
+    in_common f = subst (λ b. leb d (if b then 29 otherwise 28) ≡ leb d (month_days y m)) f in_february
 
   pub in_every : 1 ≤ m → m ≤ 12 → d ≤ 28 → true ≡ leb d (month_days y m)
   in_every h g l = sym (le-leb d (month_days y m) (omega (arith, month_full y m h g)))
@@ -90,9 +90,9 @@ module _ (y m d : ℕ) where
 -- every fourth year has one day more, after its February and before the next year
 lacks_four : (y : ℕ) → InRange y → (y - 2000 + 3) / 4 + 1 ≡ (y - 2000) / 4 + lacks y
 unfolding lacks
-lacks_four y r = subst (λ b. (y - 2000 + 3) / 4 + 1 ≡ (y - 2000) / 4 + (if b then 1 else 2)) (leap_four y r) (go (eqb (y % 4) 0) refl)
+lacks_four y r = subst (λ b. (y - 2000 + 3) / 4 + 1 ≡ (y - 2000) / 4 + (if b then 1 otherwise 2)) (leap_four y r) (go (eqb (y % 4) 0) refl)
   where
-    go : (b : Bool) → eqb (y % 4) 0 ≡ b → (y - 2000 + 3) / 4 + 1 ≡ (y - 2000) / 4 + (if b then 1 else 2)
+    go : (b : Bool) → eqb (y % 4) 0 ≡ b → (y - 2000 + 3) / 4 + 1 ≡ (y - 2000) / 4 + (if b then 1 otherwise 2)
     go true e = omega (arith, eqb-true (y % 4) 0 e)
     go false e = omega (arith, eqb-false (y % 4) 0 e)
 

@@ -5,7 +5,7 @@ use mathlib.Core.Bool.{Bool, true, false, not}
 use native.Mathlib.Omega.{arith}
 use lib.Dec.{T, eqb}
 use borrow.Author.Tests.{eqb-true, eqb-false}
-use Rattle.octets.specs.Bytes.{if◌then◌else◌}
+use Rattle.octets.specs.Bytes.{if◌then◌otherwise◌}
 use Rattle.octets.proofs.Test.{below}
 use Rattle.calendar.specs.Calendar.{leap, year_days, years_sum, days_before_year}
 use Rattle.calendar.specs.Steps.{InRange}
@@ -32,7 +32,7 @@ leap_four y r =
     ∙ ap leap {x = 2000 + (y - 2000)} {y = y} (omega arith)
 
 -- the days of the first k years
-year_step : (k : ℕ) (b : Bool) → eqb (k % 4) 0 ≡ b → 365 * k + (k + 3) / 4 + (if b then 366 else 365) ≡ 365 * suc k + (suc k + 3) / 4
+year_step : (k : ℕ) (b : Bool) → eqb (k % 4) 0 ≡ b → 365 * k + (k + 3) / 4 + (if b then 366 otherwise 365) ≡ 365 * suc k + (suc k + 3) / 4
 year_step k true e = omega (arith, eqb-true (k % 4) 0 e)
 year_step k false e = omega (arith, eqb-false (k % 4) 0 e)
 

@@ -1,6 +1,6 @@
 -- The calendar: day 0 is 2000-01-01 of the Gregorian calendar, and the last day is 36524, 2099-12-31.
 use Rattle.std.specs.Prelude.{ℕ, zero, suc, ◌+◌, ◌-◌, ◌%◌, Bool, not, ◌&&◌, ◌||◌, eqb, leb, ltb}
-use Rattle.octets.specs.Bytes.{if◌then◌else◌}
+use Rattle.octets.specs.Bytes.{if◌then◌otherwise◌}
 
 -- ---- years and months
 
@@ -10,23 +10,23 @@ leap y = eqb (y % 4) 0 && (not (eqb (y % 100) 0) || eqb (y % 400) 0)
 
 -- the days of year y
 unfoldable pub year_days : ℕ → ℕ
-year_days y = if leap y then 366 else 365
+year_days y = if leap y then 366 otherwise 365
 
 -- the days of month m of year y, and 0 where there is no such month
 unfoldable pub month_days : ℕ → ℕ → ℕ
 month_days y m =
-    if eqb m 1 then 31 else
-    if eqb m 2 then (if leap y then 29 else 28) else
-    if eqb m 3 then 31 else
-    if eqb m 4 then 30 else
-    if eqb m 5 then 31 else
-    if eqb m 6 then 30 else
-    if eqb m 7 then 31 else
-    if eqb m 8 then 31 else
-    if eqb m 9 then 30 else
-    if eqb m 10 then 31 else
-    if eqb m 11 then 30 else
-    if eqb m 12 then 31 else
+    if eqb m 1 then 31 otherwise
+    if eqb m 2 then (if leap y then 29 otherwise 28) otherwise
+    if eqb m 3 then 31 otherwise
+    if eqb m 4 then 30 otherwise
+    if eqb m 5 then 31 otherwise
+    if eqb m 6 then 30 otherwise
+    if eqb m 7 then 31 otherwise
+    if eqb m 8 then 31 otherwise
+    if eqb m 9 then 30 otherwise
+    if eqb m 10 then 31 otherwise
+    if eqb m 11 then 30 otherwise
+    if eqb m 12 then 31 otherwise
     0
 
 -- ---- the number of a date, by sums
@@ -76,8 +76,8 @@ year_after x = record { year = x.year + 1; month = 1; day = 1 }
 unfoldable pub next_date : Date → Date
 next_date x =
     if ltb x.day (month_days x.year x.month) then day_after x
-    else if ltb x.month 12 then month_after x
-    else year_after x
+    otherwise if ltb x.month 12 then month_after x
+    otherwise year_after x
 
 -- the date n days after the first
 unfoldable pub date_of : ℕ → Date
@@ -102,10 +102,10 @@ is_date y m d = leb 2000 y && (leb y 2099 && (leb 1 m && (leb m 12 && (leb 1 d &
 
 -- from year, month and day
 unfoldable pub day_of_date : ℕ → ℕ → ℕ → DayOutcome
-day_of_date y m d = if is_date y m d then record { number = 0; day = day_number y m d } else record { number = 11; day = 0 }
+day_of_date y m d = if is_date y m d then record { number = 0; day = day_number y m d } otherwise record { number = 11; day = 0 }
 
 -- and back
 unfoldable pub date_of_day : ℕ → DateOutcome
 date_of_day n =
     if leb n 36524 then record { number = 0; year = (date_of n).year; month = (date_of n).month; day = (date_of n).day }
-    else record { number = 11; year = 0; month = 0; day = 0 }
+    otherwise record { number = 11; year = 0; month = 0; day = 0 }

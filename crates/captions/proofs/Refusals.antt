@@ -9,7 +9,7 @@ use lib.Dec.{eqb}
 use lib.ListN.{length, get_or, drop, replicate}
 use lib.Seq.{get_or-drop}
 use borrow.Author.Tests.{eq-eqb, ne_eqb, leb-false, not-true, not-false}
-use Rattle.octets.specs.Bytes.{if◌then◌else◌, number, zeros, all_zero, same, all_below, be}
+use Rattle.octets.specs.Bytes.{if◌then◌otherwise◌, number, zeros, all_zero, same, all_below, be}
 use Rattle.octets.specs.Outcome.{decided}
 use Rattle.octets.specs.Clauses.{Exactly, OneOf, Each, none, and}
 use Rattle.octets.proofs.Clauses.{Reflects, reflects_not, reflects_and, reflects_or, reflects_as, reflects_eqb, reflects_leb, reflects_ltb, reflects_same, Means, decided_exactly, decided_refused}
@@ -302,13 +302,13 @@ keyed_with a = 0 ∷ 1 ∷ 4 ∷ 3 ∷ 0 ∷ 0 ∷ 0 ∷ 0 ∷ 0 ∷ 0 ∷ a ∷
 
 -- six bytes that aren't the key mark m: zeros, or else ones
 unlike_byte : List ℕ → ℕ
-unlike_byte m = if same m (replicate 6 0) then 1 else 0
+unlike_byte m = if same m (replicate 6 0) then 1 otherwise 0
 
 unlike_differs : (m : List ℕ) → same m (replicate 6 (unlike_byte m)) ≡ false
 unfolding unlike_byte
 unlike_differs m = go (same m (replicate 6 0)) refl
   where
-    go : (b : Bool) → same m (replicate 6 0) ≡ b → same m (replicate 6 (if b then 1 else 0)) ≡ false
+    go : (b : Bool) → same m (replicate 6 0) ≡ b → same m (replicate 6 (if b then 1 otherwise 0)) ≡ false
     go true h = rw (same_is m (replicate 6 0) h) (unfold same in refl)
     go false h = h
 

@@ -11,7 +11,7 @@ use lib.Dec.{leb, ltb, eqb}
 use lib.ListN.{length, get_or, set, length-set, length-replicate, get_or-replicate}
 use lib.Seq.{get_or-set_same, get_or-set_other}
 use borrow.Author.Tests.{leb-false, ltb-false, eqb-false}
-use Rattle.octets.specs.Bytes.{if◌then◌else◌, Bytes, zeros, same}
+use Rattle.octets.specs.Bytes.{if◌then◌otherwise◌, Bytes, zeros, same}
 use Rattle.octets.specs.Outcome.{decided}
 use Rattle.text.specs.Grammar.{well_formed}
 use Rattle.layout.specs.Layout.{Edition, slots, last_write, fit_in}
@@ -208,9 +208,9 @@ sheets_follow_model e x k step number s turns reg ok g unused cap is down =
 -- ---- a stranger
 
 -- a table that begins with 1, 2, 5 and 14, of which one applies; a refusal leaves b
-first_of_pair : (t₁ t₂ t₅ t₁₄ : Bool) (b : List ℕ) (rest : Outcome) → ◌≢◌ {A = ℕ} (if t₁ then 1 else if t₂ then 2 else if t₅ then 5 else if t₁₄ then 14 else 0) 0
-    → stepped (if t₁ then outcome WrongKey b else if t₂ then outcome TwinKeys b else if t₅ then outcome OtherKeyClass b else if t₁₄ then outcome OtherKeys b else rest)
-    ≡ (answered (if t₁ then 1 else if t₂ then 2 else if t₅ then 5 else if t₁₄ then 14 else 0), b)
+first_of_pair : (t₁ t₂ t₅ t₁₄ : Bool) (b : List ℕ) (rest : Outcome) → ◌≢◌ {A = ℕ} (if t₁ then 1 otherwise if t₂ then 2 otherwise if t₅ then 5 otherwise if t₁₄ then 14 otherwise 0) 0
+    → stepped (if t₁ then outcome WrongKey b otherwise if t₂ then outcome TwinKeys b otherwise if t₅ then outcome OtherKeyClass b otherwise if t₁₄ then outcome OtherKeys b otherwise rest)
+    ≡ (answered (if t₁ then 1 otherwise if t₂ then 2 otherwise if t₅ then 5 otherwise if t₁₄ then 14 otherwise 0), b)
 unfolding outcome answered answer_number answer_length
 first_of_pair true t₂ t₅ t₁₄ b rest n = refl
 first_of_pair false true t₅ t₁₄ b rest n = refl

@@ -2,7 +2,7 @@
 use mathlib.Core.Path.{◌≡◌, refl, sym, ◌∙◌}
 use mathlib.Core.Bool.{Bool, true, false, false≢true}
 use mathlib.Core.List.{List, [], ◌∷◌, ◌++◌}
-use Rattle.octets.specs.Bytes.{if◌then◌else◌}
+use Rattle.octets.specs.Bytes.{if◌then◌otherwise◌}
 use Rattle.octets.specs.Outcome.{Row, ◌gives◌, decided}
 use Rattle.octets.proofs.Outcome.{decided_append}
 
@@ -111,7 +111,7 @@ module _ {A B C : Type 0} (P : B → C → Type 0) where
 
   -- a test that both make alike
   pub row_beside : (t u : Bool) (a : A) (rows : List (Row A)) (x : B) (f : A → B) (y z : C) → t ≡ u → P (f a) y → (u ≡ false → P (decided rows x f) z)
-      → P (decided ((t gives a) ∷ rows) x f) (if u then y else z)
+      → P (decided ((t gives a) ∷ rows) x f) (if u then y otherwise z)
   unfolding decided
   row_beside true true a rows x f y z e h g = h
   row_beside true false a rows x f y z e h g = absurd (false≢true (sym e))

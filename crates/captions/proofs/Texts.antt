@@ -5,7 +5,7 @@ use mathlib.Core.Bool.{Bool, true, false, not}
 use mathlib.Core.List.{List, [], ◌∷◌}
 use lib.Dec.{leb, ltb, eqb}
 use lib.ListN.{length, get_or, set, replicate}
-use Rattle.octets.specs.Bytes.{if◌then◌else◌}
+use Rattle.octets.specs.Bytes.{if◌then◌otherwise◌}
 use Rattle.text.specs.Grammar.{Utf8, well_formed}
 use Rattle.text.proofs.Grammar.{reflects_utf8}
 use Rattle.captions.specs.Runs.{Reply, finally}
@@ -44,7 +44,7 @@ unfolding model_step
 step_texts (writes i c) m h = go (leb (length m.pages) i) (ltb 192 (length c)) (well_formed c) refl (eqb m.count 4294967295)
   where
     go : (t₆ t₇ t : Bool) → well_formed c ≡ t → (t₈ : Bool)
-        → Texts (if t₆ then (answered 6, m) else if t₇ then (answered 7, m) else if not t then (answered 15, m) else if t₈ then (answered 8, m) else (answered 0, record { pages = set m.pages i (holds c); count = m.count + 1 }))
+        → Texts (if t₆ then (answered 6, m) otherwise if t₇ then (answered 7, m) otherwise if not t then (answered 15, m) otherwise if t₈ then (answered 8, m) otherwise (answered 0, record { pages = set m.pages i (holds c); count = m.count + 1 }))
     go true t₇ t e t₈ = h
     go false true t e t₈ = h
     go false false false e t₈ = h
@@ -52,7 +52,7 @@ step_texts (writes i c) m h = go (leb (length m.pages) i) (ltb 192 (length c)) (
     go false false true e false = every_set Text (holds c) (text ((reflects_utf8 c).holds e)) i h
 step_texts (clears i) m h = go (leb (length m.pages) i)
   where
-    go : (t₆ : Bool) → Texts (if t₆ then (answered 6, m) else (answered 0, record { pages = set m.pages i blank; count = m.count }))
+    go : (t₆ : Bool) → Texts (if t₆ then (answered 6, m) otherwise (answered 0, record { pages = set m.pages i blank; count = m.count }))
     go true = h
     go false = every_set Text blank no_text i h
 

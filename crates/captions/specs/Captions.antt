@@ -1,6 +1,6 @@
 -- Sealing a caption into a slot and opening it (document 01, "The sheet"), and the key mark of a sheet (document 02, request 7), for any block cipher.
 use Rattle.std.specs.Prelude.{ℕ, ◌+◌, ◌-◌, Bool, not, ◌&&◌, ◌||◌, List, ◌++◌, length, take, drop}
-use Rattle.octets.specs.Bytes.{if◌then◌else◌, be, zeros, all_zero, same}
+use Rattle.octets.specs.Bytes.{if◌then◌otherwise◌, be, zeros, all_zero, same}
 use Rattle.cipher.specs.Key.{loaded, encrypted, decrypted}
 use Rattle.modes.specs.Cbc.{cbc_encrypt, cbc_decrypt}
 use Rattle.modes.specs.Cmac.{cmac}
@@ -105,7 +105,7 @@ module _ (x : Ciphers) where
     change s i =
         if same (check_of (mark_number (mark e s i)) i (mark_length (mark e s i)) (field e s i)) (mark_check (mark e s i))
         then Byte (first_set (opened s i) (mark_length (mark e s i)) (192 - mark_length (mark e s i)))
-        else Check
+        otherwise Check
 
 -- a clear makes all 208 bytes zero and keeps w
 unfoldable pub cleared : Edition → List ℕ → ℕ → List ℕ

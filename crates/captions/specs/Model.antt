@@ -1,6 +1,6 @@
 -- The plain model of a sheet (document 01: the book), fed the count of slots and the calls, nothing else.
 use Rattle.std.specs.Prelude.{ℕ, ◌+◌, List, not, leb, ltb, eqb, length, get_or, set, replicate}
-use Rattle.octets.specs.Bytes.{if◌then◌else◌}
+use Rattle.octets.specs.Bytes.{if◌then◌otherwise◌}
 use Rattle.text.specs.Grammar.{well_formed}
 use Rattle.captions.specs.Runs.{Reply}
 
@@ -30,11 +30,11 @@ answered number = record { number = number; len = 0 }
 -- what the model answers, and the model after the call
 unfoldable pub model_step : Call → Model → Reply × Model
 model_step (writes i c) m =
-    if leb (length m.pages) i then (answered 6, m) else
-    if ltb 192 (length c) then (answered 7, m) else
-    if not (well_formed c) then (answered 15, m) else
-    if eqb m.count 4294967295 then (answered 8, m) else
+    if leb (length m.pages) i then (answered 6, m) otherwise
+    if ltb 192 (length c) then (answered 7, m) otherwise
+    if not (well_formed c) then (answered 15, m) otherwise
+    if eqb m.count 4294967295 then (answered 8, m) otherwise
     (answered 0, record { pages = set m.pages i (holds c); count = m.count + 1 })
 model_step (clears i) m =
-    if leb (length m.pages) i then (answered 6, m) else
+    if leb (length m.pages) i then (answered 6, m) otherwise
     (answered 0, record { pages = set m.pages i blank; count = m.count })

@@ -4,7 +4,7 @@ use Rattle.schedule.specs.Schedule.{eight_words, back_start}
 use Rattle.schedule.specs.declared.Register.{Register}
 use Rattle.mcrypton.specs.Bytes.{words_of, bytes_of, encrypt_bytes, decrypt_bytes}
 use Rattle.mcrypton.specs.Registers.{encrypt_from, decrypt_from}
-use Rattle.octets.specs.Bytes.{if◌then◌else◌}
+use Rattle.octets.specs.Bytes.{if◌then◌otherwise◌}
 use Rattle.present.specs.Bytes.{encrypt_bytes as present_encrypt, decrypt_bytes as present_decrypt}
 use Rattle.present.specs.Registers.{encrypt_words, decrypt_words}
 use Rattle.cipher.specs.declared.Key.{Key}
@@ -23,7 +23,7 @@ class_known t = mcrypton_class t || present_class t
 
 -- the bytes of a key of a class
 unfoldable pub key_bytes : ℕ → ℕ
-key_bytes t = if eqb t 21 then 10 else if eqb t 24 then 16 else 2 * t
+key_bytes t = if eqb t 21 then 10 otherwise if eqb t 24 then 16 otherwise 2 * t
 
 -- some class has keys of n bytes
 unfoldable pub sheet_key_length : ℕ → Bool
@@ -46,14 +46,14 @@ mcrypton_decrypted k b = bytes_of (decrypt_from 0 (back_start (key_register k)) 
 
 -- the class chooses the cipher
 unfoldable pub encrypted : Key → List ℕ → List ℕ
-encrypted k b = if present_class k.class then encrypt_words (eqb k.class 24) k.words b else mcrypton_encrypted k b
+encrypted k b = if present_class k.class then encrypt_words (eqb k.class 24) k.words b otherwise mcrypton_encrypted k b
 
 unfoldable pub decrypted : Key → List ℕ → List ℕ
-decrypted k b = if present_class k.class then decrypt_words (eqb k.class 24) k.words b else mcrypton_decrypted k b
+decrypted k b = if present_class k.class then decrypt_words (eqb k.class 24) k.words b otherwise mcrypton_decrypted k b
 
 -- what a class means: a block encrypted and decrypted under the key k of a class, by the path number p where its cipher has one
 unfoldable pub encrypt_by : ℕ → ℕ → List ℕ → List ℕ → List ℕ
-encrypt_by class p k b = if present_class class then present_encrypt k b else encrypt_bytes p k b
+encrypt_by class p k b = if present_class class then present_encrypt k b otherwise encrypt_bytes p k b
 
 unfoldable pub decrypt_by : ℕ → ℕ → List ℕ → List ℕ → List ℕ
-decrypt_by class p k b = if present_class class then present_decrypt k b else decrypt_bytes p k b
+decrypt_by class p k b = if present_class class then present_decrypt k b otherwise decrypt_bytes p k b

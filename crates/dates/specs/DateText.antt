@@ -1,6 +1,6 @@
 -- A date as text, YYYY-MM-DD, and a day from such a text: the calendar's dates and no others (document 02, request 11).
 use Rattle.std.specs.Prelude.{ℕ, ◌+◌, ◌*◌, ◌/◌, ◌%◌, List, [], ◌∷◌, get_or}
-use Rattle.octets.specs.Bytes.{if◌then◌else◌, same}
+use Rattle.octets.specs.Bytes.{if◌then◌otherwise◌, same}
 use Rattle.calendar.specs.Calendar.{DayOutcome, day_of_date, date_of_day}
 
 -- ---- the text of a date, in ASCII: 48 is the digit 0, and 45 the hyphen
@@ -30,4 +30,4 @@ year_in x = 100 * two_at x 0 + two_at x 2
 unfoldable pub day_of_text : List ℕ → DayOutcome
 day_of_text x =
     if same x (date_text (year_in x) (two_at x 5) (two_at x 8)) then day_of_date (year_in x) (two_at x 5) (two_at x 8)
-    else record { number = 11; day = 0 }
+    otherwise record { number = 11; day = 0 }

@@ -7,7 +7,7 @@ use mathlib.Core.List.{List}
 use native.Mathlib.Omega.{arith}
 use lib.ListN.{length}
 use borrow.Author.Tests.{eq-eqb}
-use Rattle.octets.specs.Bytes.{if◌then◌else◌, zeros, same}
+use Rattle.octets.specs.Bytes.{if◌then◌otherwise◌, zeros, same}
 use Rattle.octets.specs.Outcome.{decided}
 use Rattle.octets.specs.Clauses.{Answers, Exactly}
 use Rattle.octets.proofs.Clauses.{reflects_no, reflects_yes, reflects_same, Means, decided_exactly}
@@ -95,7 +95,7 @@ old_stranger : (k : Keys) (s : List ℕ) → edition_byte s ≢ 3 → key_refusa
 unfolding key_refusal pair_tests key_tests class_tests decided answer_number
 old_stranger k s n = rw (unmarked (by_paths (key_class s) 0 0 k) s n) (go (wrong_keys k) (same k.sealing k.checking) (other_class k s))
   where
-    go : (t₁ t₂ t₅ : Bool) → ◌≢◌ {A = ℕ} (if t₁ then 1 else if t₂ then 2 else if t₅ then 5 else 0) 14
+    go : (t₁ t₂ t₅ : Bool) → ◌≢◌ {A = ℕ} (if t₁ then 1 otherwise if t₂ then 2 otherwise if t₅ then 5 otherwise 0) 14
     go true t₂ t₅ e = omega (arith, e)
     go false true t₅ e = omega (arith, e)
     go false false true e = omega (arith, e)

@@ -5,7 +5,7 @@ use mathlib.Core.Bool.{not, ◌||◌}
 use mathlib.Core.List.{List, [], ◌∷◌, ◌++◌}
 use native.Mathlib.Omega.{arith}
 use lib.ListN.{drop, replicate}
-use Rattle.octets.specs.Bytes.{if◌then◌else◌, be, number, zeros, put, all_zero, same, all_below}
+use Rattle.octets.specs.Bytes.{if◌then◌otherwise◌, be, number, zeros, put, all_zero, same, all_below}
 use Rattle.octets.specs.Outcome.{◌gives◌, decided}
 use Rattle.text.specs.Grammar.{forms, inside, after, some, meets, well_formed}
 use Rattle.mcrypton.specs.Bytes.{key_length}
@@ -154,11 +154,11 @@ module _ (s : List ℕ) (n : ℕ) (c d : List ℕ)
     ≡ decided ((altered loaded_keys edition1 s 0 gives Altered 0 (change loaded_keys edition1 s 0)) ∷ []) (outcome (Accepted n) (opened loaded_keys edition1 s 0)) (λ a. outcome a (zeros 192)))
     (opens : opened loaded_keys edition1 s 0 ≡ opened_field loaded_keys 0 1 0 abc_field)
     (alters : altered loaded_keys edition1 s 0 ≡ not (same (check_of loaded_keys 1 0 n abc_field) c) || not (all_zero (drop n (opened loaded_keys edition1 s 0))))
-    (changes : change loaded_keys edition1 s 0 ≡ (if same (check_of loaded_keys 1 0 n abc_field) c then Byte (first_set (opened loaded_keys edition1 s 0) n (192 - n)) else Check))
+    (changes : change loaded_keys edition1 s 0 ≡ (if same (check_of loaded_keys 1 0 n abc_field) c then Byte (first_set (opened loaded_keys edition1 s 0) n (192 - n)) otherwise Check))
     (checked : check_of loaded_keys 1 0 n abc_field ≡ d) where
   read_as : reading keys s 0 (replicate 192 7)
       ≡ decided
-      ((not (same d c) || not (all_zero (drop n (abc ++ zeros 189))) gives Altered 0 (if same d c then Byte (first_set (abc ++ zeros 189) n (192 - n)) else Check)) ∷ [])
+      ((not (same d c) || not (all_zero (drop n (abc ++ zeros 189))) gives Altered 0 (if same d c then Byte (first_set (abc ++ zeros 189) n (192 - n)) otherwise Check)) ∷ [])
       (outcome (Accepted n) (abc ++ zeros 189)) (λ a. outcome a (zeros 192))
   read_as = by ∙ rw (alters, changes, opens, field_opened, checked)
 

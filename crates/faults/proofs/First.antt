@@ -9,7 +9,7 @@ use native.Mathlib.Decide.{dec_le}
 use borrow.Author.Tests.{eq-eqb, ne_eqb, eqb-true, lt-ltb, le-ltb, ltb-true, ltb-false, not-true, not-false}
 use lib.Dec.{eqb, ltb}
 use lib.ListN.{length}
-use Rattle.octets.specs.Bytes.{if◌then◌else◌, part, all_zero}
+use Rattle.octets.specs.Bytes.{if◌then◌otherwise◌, part, all_zero}
 use Rattle.octets.specs.Outcome.{Row, ◌gives◌}
 use Rattle.octets.proofs.Bool.{and_left, and_right, and_both}
 use Rattle.octets.proofs.Clauses.{Reflects, reflects_not, reflects_and, reflects_or, reflects_eqb, reflects_leb, reflects_yes}
@@ -231,13 +231,13 @@ module _ (s : List ℕ) where
 -- ---- the order tells faults apart
 
 unfoldable header_at : ℕ → HeaderRule
-header_at n = if eqb n 0 then Short else if eqb n 1 then Count else if eqb n 3 then Class else if eqb n 4 then EditionRule else if eqb n 17 then SheetLength else HeaderZero (n - 1)
+header_at n = if eqb n 0 then Short otherwise if eqb n 1 then Count otherwise if eqb n 3 then Class otherwise if eqb n 4 then EditionRule otherwise if eqb n 17 then SheetLength otherwise HeaderZero (n - 1)
 
 unfoldable mark_at : ℕ → MarkRule
-mark_at n = if eqb n 0 then Number else if eqb n 4 then Length else Zero n
+mark_at n = if eqb n 0 then Number otherwise if eqb n 4 then Length otherwise Zero n
 
 unfoldable fault_at : ℕ → Fault
-fault_at n = if ltb n 18 then Header (header_at n) else Mark ((n - 18) / 16) (mark_at ((n - 18) % 16))
+fault_at n = if ltb n 18 then Header (header_at n) otherwise Mark ((n - 18) / 16) (mark_at ((n - 18) % 16))
 
 module _ (s : List ℕ) where
   mark_at_lem : (i k : ℕ) (r : MarkRule) → k < 16 → mark_at k ≡ r → fault_at (18 + 16 * i + k) ≡ Mark i r

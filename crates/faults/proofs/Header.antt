@@ -8,7 +8,7 @@ use native.Mathlib.Omega.{arith}
 use borrow.Author.Tests.{eq-eqb, ne_eqb, lt-ltb, le-ltb}
 use lib.Dec.{eqb}
 use lib.ListN.{length, get_or}
-use Rattle.octets.specs.Bytes.{if◌then◌else◌, number, part, all_zero}
+use Rattle.octets.specs.Bytes.{if◌then◌otherwise◌, number, part, all_zero}
 use Rattle.octets.specs.Outcome.{decided}
 use Rattle.layout.specs.Layout.{edition_of, slots, key_class, edition_byte, slot_count, sheet_size}
 use Rattle.layout.proofs.Header.{edition_read}
@@ -67,7 +67,7 @@ module _ (s : List ℕ) where
               rw (le-ltb (length s) 8 l, count_is, tr, ← ek, tk, edition_is, tq)
               (go (eqb (edition_byte s) 2 && not (all_zero (part s 10 6))) ez _)
             where
-              go : (b : Bool) → z ≡ (if b then first_set s 10 6 else 16) → (rest : Fault) → Header (Zero z) ≡ (if b then Header (Zero (first_set s 10 6)) else rest)
+              go : (b : Bool) → z ≡ (if b then first_set s 10 6 otherwise 16) → (rest : Fault) → Header (Zero z) ≡ (if b then Header (Zero (first_set s 10 6)) otherwise rest)
               go true e rest = ap (λ (j : ℕ). Header (Zero j)) e
               go false e rest = absurd (omega (arith, e))
 
@@ -78,12 +78,12 @@ module _ (s : List ℕ) where
               ∙ rw (le-ltb (length s) 8 l, count_is, tr, ← ek, tk, edition_is, tq, none (eqb (edition_byte s) 2) (all_zero (part s 10 6)) refl ez, sub-zero)
               (go (eqb (length s) (sheet_size (edition_of s).header (slots s))) _ _)
             where
-              none : (a b : Bool) → all_zero (part s 10 6) ≡ b → z ≡ (if a && not b then first_set s 10 6 else 16) → a && not b ≡ false
+              none : (a b : Bool) → all_zero (part s 10 6) ≡ b → z ≡ (if a && not b then first_set s 10 6 otherwise 16) → a && not b ≡ false
               none false b u q = refl
               none true true u q = refl
               none true false u q = absurd (omega (arith, q, set_below s 10 6 u))
 
-              go : (b : Bool) (y n : Fault) → (if b then y else n) ≡ (if not b then n else y)
+              go : (b : Bool) (y n : Fault) → (if b then y otherwise n) ≡ (if not b then n otherwise y)
               go true y n = refl
               go false y n = refl
 

@@ -9,7 +9,7 @@ use borrow.Author.Tests.{eq-eqb, ne_eqb}
 use lib.Dec.{eqb}
 use lib.ListN.{length, get_or, take, drop, length-drop, drop_of_length-le}
 use lib.Seq.{take_all, take-nil}
-use Rattle.octets.specs.Bytes.{if◌then◌else◌, part, all_zero}
+use Rattle.octets.specs.Bytes.{if◌then◌otherwise◌, part, all_zero}
 use Rattle.octets.proofs.Bool.{and_false_left, not_both}
 use Rattle.octets.proofs.Parts.{drop_next, length_part, get_or_part}
 use Rattle.layout.specs.Layout.{edition_byte}
@@ -203,7 +203,7 @@ module _ (s : List ℕ) (l : 8 ≤ length s) (y : ℕ) (e : y ≡ get_or s 3 0) 
     unfolding zero_place
     place_out h = rw is_two (go (all_zero (part s 10 6)) refl)
       where
-        go : (b : Bool) → all_zero (part s 10 6) ≡ b → 16 ≡ (if not b then first_set s 10 6 else 16)
+        go : (b : Bool) → all_zero (part s 10 6) ≡ b → 16 ≡ (if not b then first_set s 10 6 otherwise 16)
         go true u = refl
         go false u = absurd (omega (arith, h, f, set_inside s 10 6 u))
 
@@ -211,6 +211,6 @@ module _ (s : List ℕ) (l : 8 ≤ length s) (y : ℕ) (e : y ≡ get_or s 3 0) 
     unfolding zero_place
     place_in h = rw is_two (go (all_zero (part s 10 6)) refl)
       where
-        go : (b : Bool) → all_zero (part s 10 6) ≡ b → z ≡ (if not b then first_set s 10 6 else 16)
+        go : (b : Bool) → all_zero (part s 10 6) ≡ b → z ≡ (if not b then first_set s 10 6 otherwise 16)
         go true u = f ∙ all_sized s u (omega (arith, f, h))
         go false u = f

@@ -7,7 +7,7 @@ use native.Mathlib.Omega.{arith}
 use borrow.Author.Tests.{eq-eqb, ne_eqb, eqb-true, eqb-false, leb-true, le-leb, lt-leb}
 use lib.Dec.{eqb, leb}
 use lib.ListN.{length, get_or}
-use Rattle.octets.specs.Bytes.{if◌then◌else◌, Bytes, number, part, all_zero}
+use Rattle.octets.specs.Bytes.{if◌then◌otherwise◌, Bytes, number, part, all_zero}
 use Rattle.octets.proofs.Bool.{and_left, and_right, and_both}
 use Rattle.octets.proofs.Parts.{tab_part}
 use Rattle.octets.proofs.Numbers.{number_part_lt}
@@ -76,7 +76,7 @@ pub edition_cases : (P : Edition → Type 0) (s : List ℕ) → ((edition_byte s
 unfolding edition_of
 edition_cases P s one two three = go (eqb (edition_byte s) 2) (eqb (edition_byte s) 3) refl refl
   where
-    go : (b c : Bool) → eqb (edition_byte s) 2 ≡ b → eqb (edition_byte s) 3 ≡ c → P (if b then edition2 else if c then edition3 else edition1)
+    go : (b c : Bool) → eqb (edition_byte s) 2 ≡ b → eqb (edition_byte s) 3 ≡ c → P (if b then edition2 otherwise if c then edition3 otherwise edition1)
     go true c h g = two (eqb-true (edition_byte s) 2 h)
     go false true h g = three (eqb-true (edition_byte s) 3 g)
     go false false h g = one (eqb-false (edition_byte s) 2 h) (eqb-false (edition_byte s) 3 g)

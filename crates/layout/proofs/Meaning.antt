@@ -8,7 +8,7 @@ use native.Mathlib.Omega.{arith}
 use lib.Dec.{eqb}
 use lib.ListN.{length}
 use borrow.Author.Tests.{eqb-true, eqb-false, eq-eqb, ne_eqb}
-use Rattle.octets.specs.Bytes.{if◌then◌else◌, zeros, part, all_zero}
+use Rattle.octets.specs.Bytes.{if◌then◌otherwise◌, zeros, part, all_zero}
 use Rattle.octets.specs.Clauses.{OneOf}
 use Rattle.octets.proofs.Bool.{and_left, and_right, and_both}
 use Rattle.octets.proofs.Clauses.{Reflects, reflects_yes, reflects_or, reflects_as, reflects_eqb, reflects_three}
@@ -60,7 +60,7 @@ reflects_fits n t = reflects_as fits size (reflects_eqb n (key_bytes t))
     size : KeyFits n t → n ≡ key_bytes t
     size f = go (eqb t 21) (eqb t 24) refl refl
       where
-        go : (x y : Bool) → eqb t 21 ≡ x → eqb t 24 ≡ y → n ≡ (if x then 10 else if y then 16 else 2 * t)
+        go : (x y : Bool) → eqb t 21 ≡ x → eqb t 24 ≡ y → n ≡ (if x then 10 otherwise if y then 16 otherwise 2 * t)
         go true y p q = f.0 (eqb-true t 21 p)
         go false true p q = f.1 (eqb-true t 24 q)
         go false false p q = f.2 (eqb-false t 21 p) (eqb-false t 24 q)

@@ -1,6 +1,6 @@
 -- The layout of a sheet (document 01, "The sheet", and document 02, requests 3, 7 and 10): a header, then n marks of 16 bytes, then n sealed fields of 192 bytes.
 use Rattle.std.specs.Prelude.{ℕ, ◌+◌, ◌*◌, Bool, true, false, ◌&&◌, ◌||◌, List, ◌++◌, eqb, leb, length}
-use Rattle.octets.specs.Bytes.{if◌then◌else◌, be, number, zeros, part, put, all_zero, all_below}
+use Rattle.octets.specs.Bytes.{if◌then◌otherwise◌, be, number, zeros, part, put, all_zero, all_below}
 use Rattle.cipher.specs.Key.{mcrypton_class, class_known}
 
 -- ---- the header's fields
@@ -67,7 +67,7 @@ edition3 = record { header = 16; classes = class_known; rule = rule3; tail = ser
 
 -- the edition of a sheet: 2 in byte 3 is edition 2, 3 is edition 3, and any other value is held to edition 1's rule, which 1 alone passes
 unfoldable pub edition_of : List ℕ → Edition
-edition_of s = if eqb (edition_byte s) 2 then edition2 else if eqb (edition_byte s) 3 then edition3 else edition1
+edition_of s = if eqb (edition_byte s) 2 then edition2 otherwise if eqb (edition_byte s) 3 then edition3 otherwise edition1
 
 -- the edition that blanking makes
 abbrev pub new_edition : Edition

@@ -7,7 +7,7 @@ use native.Mathlib.Omega.{arith}
 use borrow.Author.Tests.{le-leb}
 use lib.Dec.{eqb, leb}
 use lib.ListN.{length, length-append}
-use Rattle.octets.specs.Bytes.{if◌then◌else◌, Bytes, put}
+use Rattle.octets.specs.Bytes.{if◌then◌otherwise◌, Bytes, put}
 use Rattle.octets.proofs.Bool.{and_right}
 use Rattle.cipher.specs.Key.{key_bytes}
 use Rattle.layout.specs.Layout.{slots, key_class, last_write, edition_of, mark_number, mark_length, mark, blank_slot, fit}
@@ -21,7 +21,7 @@ pub key_bytes_small : (t : ℕ) {r : ℕ} → r ≡ key_bytes t → t < 256 → 
 unfolding key_bytes
 key_bytes_small t e h = rw e (go (eqb t 21) (eqb t 24))
   where
-    go : (a b : Bool) → (if a then 10 else if b then 16 else 2 * t) < 512
+    go : (a b : Bool) → (if a then 10 otherwise if b then 16 otherwise 2 * t) < 512
     go true b = omega arith
     go false true = omega arith
     go false false = omega arith

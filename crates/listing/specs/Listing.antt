@@ -1,7 +1,7 @@
 -- The listing of a sheet (document 01, "Each side of each edge", its last paragraphs): text as bytes of ASCII.
 use Rattle.std.specs.Prelude.{ℕ, zero, suc, ◌+◌, ◌*◌, ◌/◌, ◌%◌, Bool, ◌&&◌, List, [], ◌∷◌, ◌++◌, leb, ltb, length}
 use Rattle.listing.specs.Ascii.{ascii}
-use Rattle.octets.specs.Bytes.{if◌then◌else◌, put}
+use Rattle.octets.specs.Bytes.{if◌then◌otherwise◌, put}
 use Rattle.cipher.specs.Key.{key_bytes}
 use Rattle.layout.specs.Layout.{slots, key_class, last_write, edition_of, mark_number, mark_length, mark, blank_slot, fit}
 
@@ -10,7 +10,7 @@ use Rattle.layout.specs.Layout.{slots, key_class, last_write, edition_of, mark_n
 -- "numbers are decimal": the digits of n, the highest first and none in front that is 0, where n has at most k digits
 unfoldable pub digits : ℕ → ℕ → List ℕ
 digits zero n = []
-digits (suc k) n = if ltb n 10 then (48 + n) ∷ [] else (digits k (n / 10) ++ ((48 + n % 10) ∷ []))
+digits (suc k) n = if ltb n 10 then (48 + n) ∷ [] otherwise (digits k (n / 10) ++ ((48 + n % 10) ∷ []))
 
 -- no number n has more than n + 1 digits
 unfoldable pub decimal : ℕ → List ℕ
@@ -47,7 +47,7 @@ written_line i number len = line (decimal i) (ascii "written" ∷ decimal number
 unfoldable pub slot_line : List ℕ → ℕ → List ℕ
 slot_line s i =
     if blank_slot (edition_of s) s i then blank_line i
-    else written_line i (mark_number (mark (edition_of s) s i)) (mark_length (mark (edition_of s) s i))
+    otherwise written_line i (mark_number (mark (edition_of s) s i)) (mark_length (mark (edition_of s) s i))
 
 -- the lines of the slots below n, in order
 unfoldable pub slot_lines : List ℕ → ℕ → List ℕ
@@ -67,11 +67,11 @@ listable s = leb (length s) 53264 && fit s
 unfoldable pub listing : List ℕ → List ℕ
 listing s =
     if listable s then (head_line (slots s) (key_bits s) (last_write s) ++ slot_lines s (slots s))
-    else line (ascii "unfit") []
+    otherwise line (ascii "unfit") []
 
 -- what a call answers and leaves in its output: the count of bytes listed, which stand at the start of the output;
 -- where the listing does not fit, the count 0 and the output as it was
 unfoldable pub listed : List ℕ → List ℕ → ℕ × List ℕ
 listed s out =
     if leb (length (listing s)) (length out) then (length (listing s), put out 0 (listing s))
-    else (0, out)
+    otherwise (0, out)

@@ -6,7 +6,7 @@ use Prim.Native.Nat.{ℕ, zero, suc, ◌+◌, ◌-◌, ◌/◌, ◌%◌, ◌^◌
 use native.Mathlib.Omega.{arith}
 use lib.Dec.{eqb}
 use lib.Pow.{field, mod-mod-pow}
-use Rattle.octets.specs.Bytes.{if◌then◌else◌}
+use Rattle.octets.specs.Bytes.{if◌then◌otherwise◌}
 use Rattle.mcrypton.specs.Claims.{PathBits}
 use Rattle.mcrypton.specs.Cipher.{Round, by_words, after_by}
 
@@ -27,13 +27,13 @@ module _ (W N : Round) (keys : ℕ → List ℕ) (b : List ℕ) where
   unfolding after_by
   low_after p zero l = refl
   low_after p (suc r) l =
-      ap₂ (λ (t : Bool) (a : List ℕ). if t then W (keys (suc r)) a else N (keys (suc r)) a) (low_bits p (suc r) (omega arith) l) (low_after p r (omega arith))
+      ap₂ (λ (t : Bool) (a : List ℕ). if t then W (keys (suc r)) a otherwise N (keys (suc r)) a) (low_bits p (suc r) (omega arith) l) (low_after p r (omega arith))
 
   takes : (p r : ℕ) {x : ℕ} → p / 2 ^ r % 2 ≡ x
-      → after_by W N p keys b (suc r) ≡ (if eqb x 1 then W (keys (suc r)) (after_by W N p keys b r) else N (keys (suc r)) (after_by W N p keys b r))
+      → after_by W N p keys b (suc r) ≡ (if eqb x 1 then W (keys (suc r)) (after_by W N p keys b r) otherwise N (keys (suc r)) (after_by W N p keys b r))
   unfolding after_by by_words
   takes p r e =
-      ap (λ (x : ℕ). if eqb x 1 then W (keys (suc r)) (after_by W N p keys b r) else N (keys (suc r)) (after_by W N p keys b r))
+      ap (λ (x : ℕ). if eqb x 1 then W (keys (suc r)) (after_by W N p keys b r) otherwise N (keys (suc r)) (after_by W N p keys b r))
       (ap (λ (m : ℕ). p / 2 ^ m % 2) (omega arith) ∙ e)
 
   pub path_bits : PathBits W N keys b

@@ -3,13 +3,13 @@ use mathlib.Core.Path.{◌≡◌, refl, sym, ap, ◌∙◌}
 use mathlib.Core.Bool.{Bool, true, false}
 use mathlib.Core.List.{List}
 use Prim.Native.Nat.{ℕ, zero, suc}
-use Rattle.octets.specs.Bytes.{if◌then◌else◌}
+use Rattle.octets.specs.Bytes.{if◌then◌otherwise◌}
 use Rattle.rounds.specs.Array.{nibble_round}
 use Rattle.rounds.specs.declared.Direction.{Direction}
 use Rattle.rounds.proofs.Paths.{same_round}
 use Rattle.mcrypton.specs.Cipher.{by_words, after_by, path_round, after, steps}
 
-either : (t : Bool) {x y : List ℕ} → x ≡ y → (if t then x else y) ≡ y
+either : (t : Bool) {x y : List ℕ} → x ≡ y → (if t then x otherwise y) ≡ y
 either true e = e
 either false e = refl
 

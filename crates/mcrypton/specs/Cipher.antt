@@ -1,6 +1,6 @@
 -- Encrypting and decrypting a block (document 000, 2.2; document 01: sealing and opening) by a path number.
 use Rattle.std.specs.Prelude.{ℕ, zero, suc, ◌-◌, ◌/◌, ◌%◌, ◌^◌, Bool, List, eqb}
-use Rattle.octets.specs.Bytes.{if◌then◌else◌}
+use Rattle.octets.specs.Bytes.{if◌then◌otherwise◌}
 use Rattle.rounds.specs.Array.{nibble_round, word_round, σ, φ}
 use Rattle.rounds.specs.declared.Direction.{Direction}
 use Rattle.rounds.specs.declared.Direction.TheVariants.{Encrypt, Decrypt}
@@ -16,7 +16,7 @@ by_words p r = eqb (p / 2 ^ (r - 1) % 2) 1
 
 -- round r by the path that p chooses, of any two meanings of a round: W by words, N by nibbles
 abbrev pub chosen : Round → Round → ℕ → ℕ → Round
-chosen W N p r k a = if by_words p r then W k a else N k a
+chosen W N p r k a = if by_words p r then W k a otherwise N k a
 
 -- the array after σ with round key 0 and rounds 1 to r, by any two meanings of a round
 unfoldable pub after_by : Round → Round → ℕ → (ℕ → List ℕ) → List ℕ → ℕ → List ℕ

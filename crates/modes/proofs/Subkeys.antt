@@ -10,7 +10,7 @@ use borrow.Author.Tests.{eq-eqb, ne_eqb, eqb-true, eqb-false, lt-ltb, le-ltb}
 use lib.Dec.{lit<, eqb, ltb}
 use lib.ListN.{length, get_or, set, replicate, length-append}
 use lib.Seq.{set_at}
-use Rattle.octets.specs.Bytes.{Bytes, none, more, number, zeros, part, put, if◌then◌else◌}
+use Rattle.octets.specs.Bytes.{Bytes, none, more, number, zeros, part, put, if◌then◌otherwise◌}
 use Rattle.octets.proofs.EveryByte.{append_bytes, bytes_at}
 use Rattle.octets.proofs.Parts.{part_all, tab_all}
 use Rattle.octets.proofs.Zeros.{length_zeros, zeros_bytes, drop_zeros}
@@ -118,7 +118,7 @@ pub double_block : {b : List ℕ} → ByteBlock b → ByteBlock (double b)
 unfolding double
 double_block {b} h = go (ltb (get_or b 0 0) 128)
   where
-    go : (t : Bool) → ByteBlock (if t then shift_left b else xor_bytes (shift_left b) R64)
+    go : (t : Bool) → ByteBlock (if t then shift_left b otherwise xor_bytes (shift_left b) R64)
     go true = shift_block h
     go false = xor_block (shift_block h) R64_block
 

@@ -1,6 +1,6 @@
 -- CMAC of NIST SP 800-38B with a block of 64 bits (8 bytes) and a tag of the same length. E is the cipher under a key.
 use Rattle.std.specs.Prelude.{ℕ, zero, suc, ◌+◌, ◌-◌, ◌*◌, ◌/◌, ◌%◌, List, [], ◌∷◌, ◌++◌, eqb, ltb, length, get_or}
-use Rattle.octets.specs.Bytes.{zeros, part, if◌then◌else◌}
+use Rattle.octets.specs.Bytes.{zeros, part, if◌then◌otherwise◌}
 use Rattle.modes.specs.Xor.{xor_bytes}
 
 -- 4.2, X << 1: each byte loses its top bit and takes over that of the byte after it
@@ -14,7 +14,7 @@ R64 = 0 ∷ 0 ∷ 0 ∷ 0 ∷ 0 ∷ 0 ∷ 0 ∷ 0x1b ∷ []
 
 -- 6.1, steps 2 and 3: b << 1, with R_64 added where the top bit of b is 1
 unfoldable pub double : List ℕ → List ℕ
-double b = if ltb (get_or b 0 0) 128 then shift_left b else xor_bytes (shift_left b) R64
+double b = if ltb (get_or b 0 0) 128 then shift_left b otherwise xor_bytes (shift_left b) R64
 
 module _ (E : List ℕ → List ℕ) where
   -- 6.1, step 1
@@ -31,7 +31,7 @@ module _ (E : List ℕ → List ℕ) where
 
 -- 6.2, step 2: n
 unfoldable pub block_count : List ℕ → ℕ
-block_count m = if eqb (length m) 0 then 1 else (length m + 7) / 8
+block_count m = if eqb (length m) 0 then 1 otherwise (length m + 7) / 8
 
 -- 6.2, step 3: M_i, counted from 1; the last one, M_n*, may be short or empty
 abbrev pub piece : List ℕ → ℕ → List ℕ
@@ -39,11 +39,11 @@ piece m i = part m (8 * (i - 1)) 8
 
 -- 6.2, step 4: M_n, made of M_n* with K1 or K2
 unfoldable pub last_block : List ℕ → List ℕ → List ℕ → List ℕ
-last_block k1 k2 s = if eqb (length s) 8 then xor_bytes k1 s else xor_bytes k2 (s ++ (0x80 ∷ zeros (7 - length s)))
+last_block k1 k2 s = if eqb (length s) 8 then xor_bytes k1 s otherwise xor_bytes k2 (s ++ (0x80 ∷ zeros (7 - length s)))
 
 -- 6.2, steps 3 and 4: M_1 … M_n
 unfoldable pub message_block : (List ℕ → List ℕ) → List ℕ → ℕ → List ℕ
-message_block E m i = if ltb i (block_count m) then piece m i else last_block (K1 E) (K2 E) (piece m i)
+message_block E m i = if ltb i (block_count m) then piece m i otherwise last_block (K1 E) (K2 E) (piece m i)
 
 -- 6.2, step 6: C_i = E (C_{i-1} ⊕ M_i), from any C_0 and over any blocks M
 unfoldable pub chain : (List ℕ → List ℕ) → List ℕ → (ℕ → List ℕ) → ℕ → List ℕ

@@ -1,7 +1,7 @@
 -- Tests joined by and, and what a test chooses.
 use mathlib.Core.Path.{◌≡◌, refl, sym, ◌∙◌}
 use mathlib.Core.Bool.{Bool, true, false, ◌&&◌, false≢true}
-use Rattle.octets.specs.Bytes.{if◌then◌else◌}
+use Rattle.octets.specs.Bytes.{if◌then◌otherwise◌}
 
 pub and_left : (a b : Bool) → a && b ≡ true → a ≡ true
 and_left true b h = refl
@@ -21,10 +21,10 @@ pub and_false_right : (a b : Bool) → b ≡ false → a && b ≡ false
 and_false_right true b p = p
 and_false_right false b p = refl
 
-pub if_true : {A : Type 0} (t : Bool) (x y : A) → t ≡ true → (if t then x else y) ≡ x
+pub if_true : {A : Type 0} (t : Bool) (x y : A) → t ≡ true → (if t then x otherwise y) ≡ x
 if_true t x y p = rw p
 
-pub if_false : {A : Type 0} (t : Bool) (x y : A) → t ≡ false → (if t then x else y) ≡ y
+pub if_false : {A : Type 0} (t : Bool) (x y : A) → t ≡ false → (if t then x otherwise y) ≡ y
 if_false t x y p = rw p
 
 -- what a test found, of what it decides

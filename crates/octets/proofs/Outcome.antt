@@ -2,7 +2,7 @@
 use mathlib.Core.Path.{◌≡◌, refl, ap}
 use mathlib.Core.Bool.{Bool, true, false}
 use mathlib.Core.List.{List, [], ◌∷◌, ◌++◌}
-use Rattle.octets.specs.Bytes.{if◌then◌else◌}
+use Rattle.octets.specs.Bytes.{if◌then◌otherwise◌}
 use Rattle.octets.specs.Outcome.{Row, ◌gives◌, decided}
 
 module _ {A B : Type 0} (t : Bool) (a : A) (rows : List (Row A)) (accept : B) (refuse : A → B) where
@@ -25,4 +25,4 @@ pub decided_append : {A B : Type 0} (xs ys : List (Row A)) (accept : B) (refuse 
     → decided (xs ++ ys) accept refuse ≡ decided xs (decided ys accept refuse) refuse
 unfolding decided
 decided_append [] ys accept refuse = refl
-decided_append ((t gives a) ∷ xs) ys accept refuse = ap (λ r. if t then refuse a else r) (decided_append xs ys accept refuse)
+decided_append ((t gives a) ∷ xs) ys accept refuse = ap (λ r. if t then refuse a otherwise r) (decided_append xs ys accept refuse)

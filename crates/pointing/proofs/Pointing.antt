@@ -8,7 +8,7 @@ use lib.Dec.{eqb, leb}
 use lib.ListN.{length, drop, length-drop}
 use lib.Seq.{take_all}
 use borrow.Author.Tests.{eqb-false, leb-false, not-true, not-false}
-use Rattle.octets.specs.Bytes.{if◌then◌else◌, Bytes, zeros, part, all_zero, same}
+use Rattle.octets.specs.Bytes.{if◌then◌otherwise◌, Bytes, zeros, part, all_zero, same}
 use Rattle.octets.specs.Outcome.{Row, ◌gives◌, decided}
 use Rattle.octets.proofs.Clauses.{reflects_same}
 use Rattle.octets.proofs.EveryByte.{part_bytes}
@@ -91,7 +91,7 @@ module _ (x : Ciphers) (s : List ℕ) (i : ℕ) (size : length (opened x (editio
     where
       go : (b : Bool) → same (check_of x (mark_number (mark (edition_of s) s i)) i (mark_length (mark (edition_of s) s i)) (field (edition_of s) s i)) (mark_check (mark (edition_of s) s i)) ≡ b
           → not b || not (all_zero (drop (mark_length (mark (edition_of s) s i)) (opened x (edition_of s) s i))) ≡ true
-          → AtChange x s i (change_point i (if b then Byte (first_set (opened x (edition_of s) s i) (mark_length (mark (edition_of s) s i)) (192 - mark_length (mark (edition_of s) s i))) else Check))
+          → AtChange x s i (change_point i (if b then Byte (first_set (opened x (edition_of s) s i) (mark_length (mark (edition_of s) s i)) (192 - mark_length (mark (edition_of s) s i))) otherwise Check))
       go true e h =
           record {
             slot = refl;

@@ -7,7 +7,7 @@ use Prim.Native.Nat.{ℕ, ◌^◌, ◌<◌}
 use lib.Dec.{eqb}
 use lib.ListN.{length}
 use borrow.Author.Tests.{eqb-true}
-use Rattle.octets.specs.Bytes.{if◌then◌else◌, Bytes, be, number}
+use Rattle.octets.specs.Bytes.{if◌then◌otherwise◌, Bytes, be, number}
 use Rattle.octets.specs.Block.{ByteBlock}
 use Rattle.octets.specs.Clauses.{OneOf}
 use Rattle.octets.proofs.Numbers.{length_be, be_bytes, number_be, number_lt, be_number}
@@ -27,7 +27,7 @@ unfolding key_length round_keys
 round_keys_lem {k} t h = go (eqb (length k) 10) (eqb (length k) 16) refl refl h
   where
     go : (a b : Bool) → eqb (length k) 10 ≡ a → eqb (length k) 16 ≡ b → (a || b) ≡ true
-        → Keys (λ i. if a then round_key80 (number k) i else round_key128 (number k) i)
+        → Keys (λ i. if a then round_key80 (number k) i otherwise round_key128 (number k) i)
     go true b p q h = keys80 (number k) (spelt 10 t (eqb-true (length k) 10 p))
     go false b p q h = keys128 (number k) (spelt 16 t (eqb-true (length k) 16 (q ∙ h)))
 

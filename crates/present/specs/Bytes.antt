@@ -1,6 +1,6 @@
 -- Keys and blocks as bytes, high byte first.
 use Rattle.std.specs.Prelude.{ℕ, Bool, ◌||◌, List, eqb, length}
-use Rattle.octets.specs.Bytes.{if◌then◌else◌, be, number}
+use Rattle.octets.specs.Bytes.{if◌then◌otherwise◌, be, number}
 use Rattle.present.specs.Present.{encrypt, decrypt}
 use Rattle.present_schedule.specs.Schedule.{round_key80, round_key128}
 
@@ -10,7 +10,7 @@ key_length n = eqb n 10 || eqb n 16
 
 -- K_1 to K_32 of a key
 unfoldable pub round_keys : List ℕ → ℕ → ℕ
-round_keys k i = if eqb (length k) 10 then round_key80 (number k) i else round_key128 (number k) i
+round_keys k i = if eqb (length k) 10 then round_key80 (number k) i otherwise round_key128 (number k) i
 
 -- the block b encrypted and decrypted under the key k
 unfoldable pub encrypt_bytes : List ℕ → List ℕ → List ℕ

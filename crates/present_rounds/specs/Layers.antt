@@ -2,7 +2,7 @@
 -- The state b_63 .. b_0 is the number below 2 ^ 64 whose bit i is b_i.
 use Rattle.std.specs.Prelude.{ℕ, ◌*◌, ◌%◌, ◌^◌, List, [], ◌∷◌, eqb, get_or}
 use Rattle.std.specs.Int.Bits.{bit_xor}
-use Rattle.octets.specs.Bytes.{if◌then◌else◌}
+use Rattle.octets.specs.Bytes.{if◌then◌otherwise◌}
 use Rattle.present_rounds.specs.Digits.{sum, bit, nibble}
 
 -- ---- section 3: the three steps of a round
@@ -24,7 +24,7 @@ s_box_layer s = sum 16 (λ i. sbox (nibble s i) * 16 ^ i)
 
 -- P(i), the place that bit i moves to: 16 * i mod 63, and bit 63 stays
 unfoldable pub place : ℕ → ℕ
-place i = if eqb i 63 then 63 else 16 * i % 63
+place i = if eqb i 63 then 63 otherwise 16 * i % 63
 
 -- p_layer: bit i of the state moves to place P(i)
 unfoldable pub p_layer : ℕ → ℕ

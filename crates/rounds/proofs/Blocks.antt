@@ -9,7 +9,7 @@ use lib.Pow.{shr-shr}
 use lib.Dec.{lit<, eqb, ltb, ltb→lt}
 use lib.ListN.{get_or}
 use Rattle.rounds.specs.Word.{row, nibble, xor4}
-use Rattle.octets.specs.Bytes.{if◌then◌else◌}
+use Rattle.octets.specs.Bytes.{if◌then◌otherwise◌}
 use Rattle.rounds.specs.Array.{Block, words, array, cell, sboxes, sbox, offset, opposite, mask, γ, π, τ, σ, φ, nibble_round}
 use Rattle.rounds.specs.declared.Direction.{Direction}
 use Rattle.rounds.specs.declared.Direction.TheVariants.{Encrypt, Decrypt}
@@ -140,13 +140,13 @@ pub γ_γ : (d : Direction) {a : List ℕ} → Block a → γ (opposite d) (γ d
 
 -- twice masked, nibble l of a column comes back in row l, and in no other row
 masks_twice : (j i l x : ℕ) → j < 4 → i < 4 → l < 4 → x < 16
-    → xor4 (λ k. bit_and (bit_and x (mask (i + k + l))) (mask (i + j + k))) ≡ (if eqb l j then x else 0)
+    → xor4 (λ k. bit_and (bit_and x (mask (i + k + l))) (mask (i + j + k))) ≡ (if eqb l j then x otherwise 0)
 masks_twice =
-    agree4 4 4 4 16 (λ j i l x. xor4 (λ k. bit_and (bit_and x (mask (i + k + l))) (mask (i + j + k)))) (λ j i l x. (if eqb l j then x else 0)) tt
+    agree4 4 4 4 16 (λ j i l x. xor4 (λ k. bit_and (bit_and x (mask (i + k + l))) (mask (i + j + k)))) (λ j i l x. (if eqb l j then x otherwise 0)) tt
 
-xor4_pick : (f : ℕ → ℕ) (j : ℕ) → j < 4 → xor4 (λ l. (if eqb l j then (f l) else 0)) ≡ f j
+xor4_pick : (f : ℕ → ℕ) (j : ℕ) → j < 4 → xor4 (λ l. (if eqb l j then (f l) otherwise 0)) ≡ f j
 xor4_pick f =
-    cases4 (λ (j : ℕ). xor4 (λ l. (if eqb l j then (f l) else 0)) ≡ f j)
+    cases4 (λ (j : ℕ). xor4 (λ l. (if eqb l j then (f l) otherwise 0)) ≡ f j)
     (ap (λ (x : ℕ). bit_xor x 0) (xor_zero_r (f 0)) ∙ xor_zero_r (f 0)) (xor_zero_r (f 1)) (xor_zero_r (f 2)) refl
 
 pub π_π : {a : List ℕ} → Block a → π (π a) ≡ a

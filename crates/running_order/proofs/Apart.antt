@@ -6,7 +6,7 @@ use mathlib.Core.List.{List, [], ◌∷◌, ◌++◌, map, append_assoc}
 use native.Mathlib.Omega.{arith}
 use borrow.Author.Tests.{eq-eqb, ne_eqb}
 use lib.Dec.{ltb}
-use Rattle.octets.specs.Bytes.{if◌then◌else◌}
+use Rattle.octets.specs.Bytes.{if◌then◌otherwise◌}
 use Rattle.octets.specs.Clauses.{Each, none, and}
 use Rattle.layout.specs.Layout.{slots, edition_of, mark_length, mark}
 use Rattle.terms.specs.Terms.{opening, closing}
@@ -42,7 +42,7 @@ unfolding digits
 digits_inked zero n = none
 digits_inked (suc k) n = go (ltb n 10) (digits_inked k (n / 10))
   where
-    go : (b : Bool) → Inked (digits k (n / 10)) → Inked (if b then ((48 + n) ∷ []) else (digits k (n / 10) ++ ((48 + n % 10) ∷ [])))
+    go : (b : Bool) → Inked (digits k (n / 10)) → Inked (if b then ((48 + n) ∷ []) otherwise (digits k (n / 10) ++ ((48 + n % 10) ∷ [])))
     go true q = and {n = 48 + n} (omega arith) none
     go false q = each_append (λ c. 45 ≤ c) (digits k (n / 10)) ((48 + n % 10) ∷ []) q (and {n = 48 + n % 10} (omega arith) none)
 

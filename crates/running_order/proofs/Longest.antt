@@ -8,7 +8,7 @@ use native.Mathlib.Nat.{mul-suc}
 use native.Mathlib.Omega.{arith}
 use lib.Dec.{eqb}
 use lib.ListN.{length, length-append}
-use Rattle.octets.specs.Bytes.{if◌then◌else◌}
+use Rattle.octets.specs.Bytes.{if◌then◌otherwise◌}
 use Rattle.octets.proofs.Bool.{and_left}
 use Rattle.layout.specs.Layout.{slots, last_write, edition_of, mark_length, mark, blank_slot, fit}
 use Rattle.layout.proofs.Fits.{Fits, fit_facts, fits_few, not_blank_written, written_length}
@@ -112,7 +112,7 @@ module _ (s t : List ℕ) where
   longest x = go (fit s && fit_terms (slots s) t) refl (eqb (day_of_text x).number 0)
     where
       go : (b : Bool) → fit s && fit_terms (slots s) t ≡ b → (c : Bool)
-          → length (if b then (if c then show_lines s t (in_order s t (day_of_text x).day) else ascii "no such date\n") else ascii "unfit\n") ≤ 7570
+          → length (if b then (if c then show_lines s t (in_order s t (day_of_text x).day) otherwise ascii "no such date\n") otherwise ascii "unfit\n") ≤ 7570
       go true e true = lines_most (day_of_text x).day (fit_facts s (and_left (fit s) (fit_terms (slots s) t) e))
       go true e false = omega arith
       go false e c = omega arith

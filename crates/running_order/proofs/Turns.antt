@@ -8,7 +8,7 @@ use native.Mathlib.Omega.{arith}
 use borrow.Author.Tests.{eq-eqb, ne_eqb}
 use lib.Dec.{eqb, leb}
 use lib.ListN.{length, get_or}
-use Rattle.octets.specs.Bytes.{if◌then◌else◌}
+use Rattle.octets.specs.Bytes.{if◌then◌otherwise◌}
 use Rattle.octets.proofs.Bool.{not_both}
 use Rattle.layout.specs.Layout.{slots}
 use Rattle.terms.specs.Terms.{opening}
@@ -47,12 +47,12 @@ module _ (g : ℕ → ℕ) where
 
 -- 1 for a number that carries slot i
 unfoldable pub of_slot : ℕ → ℕ → ℕ
-of_slot i k = if eqb i (k % 256) then 1 else 0
+of_slot i k = if eqb i (k % 256) then 1 otherwise 0
 
 times_sum : (i : ℕ) (ks : List ℕ) → times i (map (λ k. k % 256) ks) ≡ sum (of_slot i) ks
 unfolding times sum of_slot
 times_sum i [] = refl
-times_sum i (k ∷ ks) = ap (λ (n : ℕ). (if eqb i (k % 256) then 1 else 0) + n) (times_sum i ks)
+times_sum i (k ∷ ks) = ap (λ (n : ℕ). (if eqb i (k % 256) then 1 otherwise 0) + n) (times_sum i ks)
 
 -- ---- how often a slot stands in the order
 
@@ -73,7 +73,7 @@ module _ (s t : List ℕ) (day i : ℕ) where
   count_above (suc n) h l = count_other n (omega arith) (λ e. omega arith) ∙ count_above n (omega arith) (omega arith)
 
   -- below i nothing, at i one where it is shown, and no more after
-  count_at : (b : Bool) → shown s t day i ≡ b → i < 256 → count (suc i) ≡ (if b then 1 else 0)
+  count_at : (b : Bool) → shown s t day i ≡ b → i < 256 → count (suc i) ≡ (if b then 1 otherwise 0)
   unfolding of_slot
   count_at true e h =
       numbers_cases s t day (λ ks. sum (of_slot i) ks ≡ 1) i
@@ -84,7 +84,7 @@ module _ (s t : List ℕ) (day i : ℕ) where
       (λ f. absurd (not_both (shown s t day i) f e))
       (λ f. count_above i (omega arith) (omega arith))
 
-  count_upto : (b : Bool) → shown s t day i ≡ b → (n : ℕ) → n ≤ 256 → i < n → count n ≡ (if b then 1 else 0)
+  count_upto : (b : Bool) → shown s t day i ≡ b → (n : ℕ) → n ≤ 256 → i < n → count n ≡ (if b then 1 otherwise 0)
   count_upto b e zero h l = absurd (omega arith)
   count_upto b e (suc n) h l =
       elim (dec_lt i n) [
@@ -100,7 +100,7 @@ module _ (s t : List ℕ) (day i : ℕ) where
     pub times_above : slots s ≤ i → times i (in_order s t day) ≡ 0
     times_above h = times_count ∙ count_above (slots s) few h
 
-    pub times_upto : i < slots s → (b : Bool) → shown s t day i ≡ b → times i (in_order s t day) ≡ (if b then 1 else 0)
+    pub times_upto : i < slots s → (b : Bool) → shown s t day i ≡ b → times i (in_order s t day) ≡ (if b then 1 otherwise 0)
     times_upto h b e = times_count ∙ count_upto b e (slots s) few h
 
     pub times_most : times i (in_order s t day) ≤ 1

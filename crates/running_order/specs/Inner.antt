@@ -1,6 +1,6 @@
 -- What contracts between functions cite.
 use Rattle.std.specs.Prelude.{ℕ, ◌%◌, ◌≤◌, ◌<◌, ◌≡◌, List, ◌++◌, [], ◌∷◌, length, take}
-use Rattle.octets.specs.Bytes.{if◌then◌else◌}
+use Rattle.octets.specs.Bytes.{if◌then◌otherwise◌}
 use Rattle.octets.specs.Clauses.{Each}
 use Rattle.terms.specs.Terms.{opening}
 use Rattle.running_order.specs.Order.{shown, order_number}
@@ -13,7 +13,7 @@ pub record Holds (l : List ℕ) (n : ℕ) (ks : List ℕ) : Type 0 where
 
 -- ks and the number of slot i after them, where it is shown
 unfoldable pub with_slot : List ℕ → List ℕ → ℕ → ℕ → List ℕ → List ℕ
-with_slot s t day i ks = ks ++ (if shown s t day i then (order_number s t i ∷ []) else [])
+with_slot s t day i ks = ks ++ (if shown s t day i then (order_number s t i ∷ []) otherwise [])
 
 -- each of the first n numbers of l carries a slot below m
 pub record Carry (l : List ℕ) (n m : ℕ) : Type 0 where

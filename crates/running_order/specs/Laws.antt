@@ -1,6 +1,6 @@
 -- What is proved of the running order: which text is printed, which slots have a line, what a line says, in what order they stand, how the text is read back, and what a call does.
 use Rattle.std.specs.Prelude.{ℕ, ◌≤◌, ◌<◌, ◌≡◌, List, [], ◌∷◌, ◌++◌, map, ◌↔◌, ◌⊎◌, eqb, length, get_or, take, drop, replicate}
-use Rattle.octets.specs.Bytes.{if◌then◌else◌, Bytes}
+use Rattle.octets.specs.Bytes.{if◌then◌otherwise◌, Bytes}
 use Rattle.octets.specs.Clauses.{◌when◌, Exactly}
 use Rattle.octets.specs.BlockCalls.{Leaves}
 use Rattle.calendar.specs.Calendar.{day_of_date}
@@ -61,7 +61,7 @@ on_first c (x ∷ xs) = (c ∷ x) ∷ xs
 -- a text cut at each byte b, which falls away
 unfoldable pub cut_at : ℕ → List ℕ → List (List ℕ)
 cut_at b [] = [] ∷ []
-cut_at b (c ∷ x) = if eqb c b then ([] ∷ cut_at b x) else on_first c (cut_at b x)
+cut_at b (c ∷ x) = if eqb c b then ([] ∷ cut_at b x) otherwise on_first c (cut_at b x)
 
 -- ---- the call
 

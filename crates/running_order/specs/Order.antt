@@ -1,6 +1,6 @@
 -- The running order of a day (document 02, request 11): text as bytes of ASCII.
 use Rattle.std.specs.Prelude.{ℕ, zero, suc, ◌+◌, ◌*◌, ◌%◌, Bool, not, ◌&&◌, List, [], ◌∷◌, ◌++◌, map, eqb}
-use Rattle.octets.specs.Bytes.{if◌then◌else◌}
+use Rattle.octets.specs.Bytes.{if◌then◌otherwise◌}
 use Rattle.layout.specs.Layout.{slots, edition_of, mark_length, mark, blank_slot, fit}
 use Rattle.terms.specs.Terms.{opening, closing, fit_terms, on_show}
 use Rattle.dates.specs.DateText.{day_text, day_of_text}
@@ -32,7 +32,7 @@ module _ (s t : List ℕ) where
   -- the numbers of the slots below n that are shown
   unfoldable pub shown_numbers : ℕ → ℕ → List ℕ
   shown_numbers day zero = []
-  shown_numbers day (suc n) = shown_numbers day n ++ (if shown day n then (order_number n ∷ []) else [])
+  shown_numbers day (suc n) = shown_numbers day n ++ (if shown day n then (order_number n ∷ []) otherwise [])
 
   -- the slots that are shown, in their order
   unfoldable pub in_order : ℕ → List ℕ
@@ -42,5 +42,5 @@ module _ (s t : List ℕ) where
 unfoldable pub running_order : List ℕ → List ℕ → List ℕ → List ℕ
 running_order s t x =
     if fit s && fit_terms (slots s) t then
-    (if eqb (day_of_text x).number 0 then show_lines s t (in_order s t (day_of_text x).day) else ascii "no such date\n")
-    else ascii "unfit\n"
+    (if eqb (day_of_text x).number 0 then show_lines s t (in_order s t (day_of_text x).day) otherwise ascii "no such date\n")
+    otherwise ascii "unfit\n"

@@ -1,7 +1,7 @@
 -- The key schedule of mCrypton (document 000, 2.3). A key is a list of 4, 6 or 8 words.
 use Rattle.std.specs.Prelude.{ℕ, zero, suc, ◌+◌, ◌*◌, ◌-◌, ◌^◌, ◌<◌, List, [], ◌∷◌, eqb, get_or, length}
 use Rattle.std.specs.Int.Bits.{bit_xor}
-use Rattle.octets.specs.Bytes.{if◌then◌else◌}
+use Rattle.octets.specs.Bytes.{if◌then◌otherwise◌}
 use Rattle.rounds.specs.Word.{rotate, row, nibble}
 use Rattle.rounds.specs.Array.{sbox, φ}
 use Rattle.schedule.specs.declared.Register.{Register}
@@ -23,7 +23,7 @@ pub record Key (k : List ℕ) : Type 0 where
 
 -- a is for 4 words, b for 6, c for 8 (and for any other count, which no key has)
 unfoldable pub by_count {ℓ} : {A : Type ℓ} → ℕ → A → A → A → A
-by_count t a b c = if eqb t 4 then a else if eqb t 6 then b else c
+by_count t a b c = if eqb t 4 then a otherwise if eqb t 6 then b otherwise c
 
 -- ---- the forward register
 
@@ -137,7 +137,7 @@ kept w i = nibble w i * 2 ^ (12 - 4 * i)
 
 -- the word that the last round key word is made from
 unfoldable pub last_word : Register → ℕ
-last_word r = get_or r.words (if eqb r.count 4 then 0 else 4) 0
+last_word r = get_or r.words (if eqb r.count 4 then 0 otherwise 4) 0
 
 -- the round key of a register
 unfoldable pub round_key : Register → List ℕ

@@ -8,7 +8,7 @@ use native.Mathlib.Omega.{arith}
 use lib.Dec.{eqb, ltb}
 use lib.ListN.{length, get_or, drop, replicate, drop_of_length-le}
 use borrow.Author.Tests.{eq-eqb, ne_eqb}
-use Rattle.octets.specs.Bytes.{if◌then◌else◌}
+use Rattle.octets.specs.Bytes.{if◌then◌otherwise◌}
 use Rattle.octets.proofs.Bool.{if_true, if_false}
 use Rattle.octets.proofs.Parts.{drop_next}
 use Rattle.text.specs.Grammar.{Range, tail, forms, inside, after}
@@ -23,7 +23,7 @@ following_small : (x : ℕ) → following x ≤ 3
 unfolding following
 following_small x = go (ltb x 0xC2) (ltb x 0xE0) (ltb x 0xF0) (ltb x 0xF5)
   where
-    go : (a b c d : Bool) → (if a then 0 else if b then 1 else if c then 2 else if d then 3 else 0) ≤ 3
+    go : (a b c d : Bool) → (if a then 0 otherwise if b then 1 otherwise if c then 2 otherwise if d then 3 otherwise 0) ≤ 3
     go true b c d = omega arith
     go false true c d = omega arith
     go false false true d = omega arith
@@ -34,7 +34,7 @@ low_least : (x : ℕ) → 0x80 ≤ second_low x
 unfolding second_low
 low_least x = go (eqb x 0xE0) (eqb x 0xF0)
   where
-    go : (a b : Bool) → 0x80 ≤ (if a then 0xA0 else if b then 0x90 else 0x80)
+    go : (a b : Bool) → 0x80 ≤ (if a then 0xA0 otherwise if b then 0x90 otherwise 0x80)
     go true b = omega arith
     go false true = omega arith
     go false false = omega arith
@@ -43,7 +43,7 @@ high_most : (x : ℕ) → second_high x ≤ 0xBF
 unfolding second_high
 high_most x = go (eqb x 0xED) (eqb x 0xF4)
   where
-    go : (a b : Bool) → (if a then 0x9F else if b then 0x8F else 0xBF) ≤ 0xBF
+    go : (a b : Bool) → (if a then 0x9F otherwise if b then 0x8F otherwise 0xBF) ≤ 0xBF
     go true b = omega arith
     go false true = omega arith
     go false false = omega arith
@@ -72,7 +72,7 @@ unfolding ahead reached furthest
 no_row x y e s = ap (λ (rows : List (List Range)). furthest rows (reached s)) e
 
 -- a further byte
-further : (x y n : ℕ) (b : Bool) → b ≡ inside (second x) y → (s : List ℕ) → reached (y ∷ s) (ahead x (suc n)) ≡ (if b then suc (reached s (replicate n tail)) else 0)
+further : (x y n : ℕ) (b : Bool) → b ≡ inside (second x) y → (s : List ℕ) → reached (y ∷ s) (ahead x (suc n)) ≡ (if b then suc (reached s (replicate n tail)) otherwise 0)
 unfolding ahead reached
 further x y n b e s = rw e
 
@@ -133,7 +133,7 @@ module _ (s : List ℕ) (i n x : ℕ) (r : Reaches s i n x) where
       go e = let z : reached (drop i s) (ahead x n) ≡ 0 = unfold reached in rw e in omega (arith, z, r.same)
 
   module _ (m : ℕ) (l : i < length s) (f : Left n x (get_or s i 0) m) where
-    after_byte : i + (if eqb m 4 then 0 else suc (reached (drop (i + 1) s) (ahead (get_or s i 0) m))) ≡ broken_at s
+    after_byte : i + (if eqb m 4 then 0 otherwise suc (reached (drop (i + 1) s) (ahead (get_or s i 0) m))) ≡ broken_at s
     after_byte = ap (λ (k : ℕ). i + k) (sym (f.same (drop (i + 1) s))) ∙ ap (λ (t : List ℕ). i + reached t (ahead x n)) (sym (drop_next s i l)) ∙ r.same
 
     pub breaks_here : m ≡ 4 → i ≡ broken_at s

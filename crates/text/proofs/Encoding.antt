@@ -10,7 +10,7 @@ use native.Mathlib.Omega.{arith}
 use lib.Dec.{ltb, lit≤, lit<}
 use lib.ListN.{length, get_or, drop}
 use borrow.Author.Tests.{le-leb, lt-leb, lt-ltb, le-ltb}
-use Rattle.octets.specs.Bytes.{if◌then◌else◌}
+use Rattle.octets.specs.Bytes.{if◌then◌otherwise◌}
 use Rattle.text.specs.Grammar.{Range, ◌to◌, tail, forms, Fits, none, more, Utf8, empty, char}
 use Rattle.text.specs.Encoding.{CodePoint, CodePoints, end, point, Encoded, encode_one, encode, one, two, three, four}
 
@@ -207,16 +207,16 @@ exactly s = (utf8_encoded, λ r. subst Utf8 (sym r.bytes) (points_utf8 r.each))
 -- the first code point of encoded bytes, and the bytes after it
 abbrev first : List ℕ → ℕ
 first s =
-    if ltb (get_or s 0 0) 0x80 then get_or s 0 0 else
-    if ltb (get_or s 0 0) 0xE0 then spell2 (get_or s 0 0) (get_or s 1 0) else
-    if ltb (get_or s 0 0) 0xF0 then spell3 (get_or s 0 0) (get_or s 1 0) (get_or s 2 0) else
+    if ltb (get_or s 0 0) 0x80 then get_or s 0 0 otherwise
+    if ltb (get_or s 0 0) 0xE0 then spell2 (get_or s 0 0) (get_or s 1 0) otherwise
+    if ltb (get_or s 0 0) 0xF0 then spell3 (get_or s 0 0) (get_or s 1 0) (get_or s 2 0) otherwise
     spell4 (get_or s 0 0) (get_or s 1 0) (get_or s 2 0) (get_or s 3 0)
 
 abbrev later : List ℕ → List ℕ
 later s =
-    if ltb (get_or s 0 0) 0x80 then drop 1 s else
-    if ltb (get_or s 0 0) 0xE0 then drop 2 s else
-    if ltb (get_or s 0 0) 0xF0 then drop 3 s else
+    if ltb (get_or s 0 0) 0x80 then drop 1 s otherwise
+    if ltb (get_or s 0 0) 0xE0 then drop 2 s otherwise
+    if ltb (get_or s 0 0) 0xF0 then drop 3 s otherwise
     drop 4 s
 
 -- bytes that begin with n and go on with t

@@ -7,7 +7,7 @@ use mathlib.Core.List.{List, [], ◌∷◌, ◌++◌, Memᴰ}
 use mathlib.Core.Logic.{◌↔◌, ⊎_elim}
 use lib.Dec.{leb}
 use borrow.Author.Tests.{leb-true, le-leb}
-use Rattle.octets.specs.Bytes.{if◌then◌else◌}
+use Rattle.octets.specs.Bytes.{if◌then◌otherwise◌}
 use Rattle.octets.proofs.Clauses.{Reflects}
 use Rattle.octets.proofs.Bool.{and_left, and_right, and_both}
 use Rattle.text.specs.Grammar.{Range, ◌to◌, tail, forms, Fits, none, more, Utf8, empty, char, inside, after, some, meets, well_formed}
@@ -72,7 +72,7 @@ some_begins x p [] e = absurd (false≢true e)
 some_begins x p ([] ∷ rows) e = later (some_begins x p rows e)
 some_begins x p ((r ∷ row) ∷ rows) e = go (inside r x) refl (p row) refl e (some_begins x p rows)
   where
-    go : (i : Bool) → inside r x ≡ i → (q : Bool) → p row ≡ q → some (if i then row ∷ after x rows else after x rows) p ≡ true
+    go : (i : Bool) → inside r x ≡ i → (q : Bool) → p row ≡ q → some (if i then row ∷ after x rows otherwise after x rows) p ≡ true
         → (some (after x rows) p ≡ true → Begins x p rows) → Begins x p ((r ∷ row) ∷ rows)
     go true i true q e f = begins r row (Memᴰ.head refl) i q
     go true i false q e f = later (f (rw q at e))
@@ -85,13 +85,13 @@ begins_some x p [] r row m i e = absurd (Memᴰ.not-nil m)
 begins_some x p ([] ∷ rows) r row m i e = ⊎_elim (λ q. absurd (cons_not_nil q)) (λ l. begins_some x p rows r row l i e) (Memᴰ.cases_cons m)
 begins_some x p ((r' ∷ row') ∷ rows) r row m i e = ⊎_elim here (λ l. there (inside r' x) (begins_some x p rows r row l i e)) (Memᴰ.cases_cons m)
   where
-    here : (r ∷ row) ≡ (r' ∷ row') → some (if inside r' x then row' ∷ after x rows else after x rows) p ≡ true
+    here : (r ∷ row) ≡ (r' ∷ row') → some (if inside r' x then row' ∷ after x rows otherwise after x rows) p ≡ true
     here q =
         let i' : inside r' x ≡ true = subst (λ l. inside (head l) x ≡ true) q i in
         let e' : p row' ≡ true = subst (λ l. p (rest l) ≡ true) q e in
         rw (i', e')
 
-    there : (b : Bool) → some (after x rows) p ≡ true → some (if b then row' ∷ after x rows else after x rows) p ≡ true
+    there : (b : Bool) → some (after x rows) p ≡ true → some (if b then row' ∷ after x rows otherwise after x rows) p ≡ true
     there true f = or_right (p row') (some (after x rows) p) f
     there false f = f
 

@@ -6,7 +6,7 @@ use mathlib.Core.List.{List, [], ◌∷◌}
 use native.Mathlib.Omega.{arith}
 use lib.Dec.{T, eqb, ltb}
 use borrow.Author.Tests.{eqb-true, ne_eqb, lt-ltb, le-ltb}
-use Rattle.octets.specs.Bytes.{if◌then◌else◌}
+use Rattle.octets.specs.Bytes.{if◌then◌otherwise◌}
 use Rattle.octets.proofs.Bool.{and_left, and_right}
 use Rattle.octets.proofs.Test.{below}
 use Rattle.text.specs.Grammar.{Range, ◌to◌, tail, forms, inside, after}
@@ -18,7 +18,7 @@ begun x zero = []
 begun x (suc n) = ahead x (suc n) ∷ []
 
 unfoldable lead : ℕ → List (List Range)
-lead x = if ltb x 0x80 then [] ∷ [] else begun x (following x)
+lead x = if ltb x 0x80 then [] ∷ [] otherwise begun x (following x)
 
 -- ---- equal rows
 

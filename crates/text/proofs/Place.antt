@@ -10,7 +10,7 @@ use lib.Dec.{leb}
 use lib.ListN.{length, take, drop, take-append-drop}
 use lib.Seq.{length-take-le, take-take}
 use borrow.Author.Tests.{leb-true}
-use Rattle.octets.specs.Bytes.{if◌then◌else◌}
+use Rattle.octets.specs.Bytes.{if◌then◌otherwise◌}
 use Rattle.octets.proofs.Bool.{and_left, and_right, and_both}
 use Rattle.text.specs.Grammar.{Range, ◌to◌, forms, Utf8, inside, after, some, meets, well_formed}
 use Rattle.text.specs.Place.{GoesOn, BreaksAt, furthest, reached, broken_at}
@@ -58,7 +58,7 @@ after_fillable x [] e = refl
 after_fillable x ([] ∷ rows) e = after_fillable x rows (and_right (fillable []) (all_fillable rows) e)
 after_fillable x ((r ∷ row) ∷ rows) e = go (inside r x) (after_fillable x rows (and_right (fillable (r ∷ row)) (all_fillable rows) e))
   where
-    go : (b : Bool) → all_fillable (after x rows) ≡ true → all_fillable (if b then row ∷ after x rows else after x rows) ≡ true
+    go : (b : Bool) → all_fillable (after x rows) ≡ true → all_fillable (if b then row ∷ after x rows otherwise after x rows) ≡ true
     go true g = and_both (fillable row) (all_fillable (after x rows)) (fillable_rest r row (and_left (fillable (r ∷ row)) (all_fillable rows) e)) g
     go false g = g
 
@@ -110,7 +110,7 @@ reached_goes (x ∷ s) [] e = go (find_best (reached s) (after x forms) (after_f
     go (best row l z f) h = let g = h row l in rw z (record { by = g.by; passes = unfold meets in f (meets (take (reached s row) s ++ g.by)) g.passes })
 reached_goes (x ∷ s) (r ∷ ranges) e = go (inside r x) refl (reached_goes s ranges (fillable_rest r ranges e))
   where
-    go : (b : Bool) → inside r x ≡ b → Goes (take (reached s ranges) s) ranges → Goes (take (if b then suc (reached s ranges) else 0) (x ∷ s)) (r ∷ ranges)
+    go : (b : Bool) → inside r x ≡ b → Goes (take (reached s ranges) s) ranges → Goes (take (if b then suc (reached s ranges) otherwise 0) (x ∷ s)) (r ∷ ranges)
     go true q g = record { by = g.by; passes = unfold meets in rw q g.passes }
     go false q g = record { by = lows (r ∷ ranges); passes = lows_meet (r ∷ ranges) e }
 
@@ -127,7 +127,7 @@ reached_within [] ranges = omega arith
 reached_within (x ∷ s) [] = furthest_within (length s) (reached s) (reached_within s) (after x forms)
 reached_within (x ∷ s) (r ∷ ranges) = go (inside r x) (reached_within s ranges)
   where
-    go : (b : Bool) → reached s ranges ≤ length s → (if b then suc (reached s ranges) else 0) ≤ suc (length s)
+    go : (b : Bool) → reached s ranges ≤ length s → (if b then suc (reached s ranges) otherwise 0) ≤ suc (length s)
     go true h = omega (arith, h)
     go false h = omega arith
 

@@ -1,6 +1,6 @@
 -- UTF-8 by the table of RFC 3629, section 3: the bits of a character's number, distributed over one to four bytes.
 use Rattle.std.specs.Prelude.{ℕ, ◌+◌, ◌/◌, ◌%◌, ◌^◌, ◌<◌, ◌≤◌, ◌≡◌, List, [], ◌∷◌, ◌++◌, leb}
-use Rattle.octets.specs.Bytes.{if◌then◌else◌}
+use Rattle.octets.specs.Bytes.{if◌then◌otherwise◌}
 
 -- the number of a character: below 0x110000, and no surrogate (0xD800 to 0xDFFF)
 pub record CodePoint (n : ℕ) : Type 0 where
@@ -26,9 +26,9 @@ four n = (0b11110000 + n / 2 ^ 18) ∷ (0b10000000 + n / 2 ^ 12 % 2 ^ 6) ∷ (0b
 -- the row of the table by the number's range
 unfoldable pub encode_one : ℕ → List ℕ
 encode_one n =
-    if leb n 0x7F then one n else
-    if leb n 0x7FF then two n else
-    if leb n 0xFFFF then three n else
+    if leb n 0x7F then one n otherwise
+    if leb n 0x7FF then two n otherwise
+    if leb n 0xFFFF then three n otherwise
     four n
 
 unfoldable pub encode : List ℕ → List ℕ

@@ -1,7 +1,7 @@
 -- UTF-8 by the grammar of RFC 3629, section 4: a table of the ranges that the bytes of a character lie in.
 use Rattle.std.specs.Prelude.{ℕ, ◌≤◌, Bool, true, false, ◌&&◌, ◌||◌, leb}
 use mathlib.Core.List.{List, [], ◌∷◌, ◌++◌, Memᴰ}
-use Rattle.octets.specs.Bytes.{if◌then◌else◌}
+use Rattle.octets.specs.Bytes.{if◌then◌otherwise◌}
 
 -- the bytes from low to high, both among them
 infix 68 ◌to◌
@@ -47,7 +47,7 @@ inside (low to high) x = leb low x && leb x high
 unfoldable pub after : ℕ → List (List Range) → List (List Range)
 after x [] = []
 after x ([] ∷ rows) = after x rows
-after x ((r ∷ row) ∷ rows) = if inside r x then row ∷ after x rows else after x rows
+after x ((r ∷ row) ∷ rows) = if inside r x then row ∷ after x rows otherwise after x rows
 
 -- the test p passes at a row
 unfoldable pub some : List (List Range) → (List Range → Bool) → Bool

@@ -1,6 +1,6 @@
 -- Where bytes break: the place of the first byte at which no well-formed text can go on.
 use Rattle.std.specs.Prelude.{ℕ, suc, ◌+◌, ◌≤◌, ◌<◌, max, List, [], ◌∷◌, ◌++◌, length, take}
-use Rattle.octets.specs.Bytes.{if◌then◌else◌}
+use Rattle.octets.specs.Bytes.{if◌then◌otherwise◌}
 use Rattle.text.specs.Grammar.{Range, forms, inside, after, Utf8}
 
 -- ---- as a proposition
@@ -27,7 +27,7 @@ furthest (row ∷ rows) f = max (suc (f row)) (furthest rows f)
 unfoldable pub reached : List ℕ → List Range → ℕ
 reached [] ranges = 0
 reached (x ∷ s) [] = furthest (after x forms) (reached s)
-reached (x ∷ s) (r ∷ ranges) = if inside r x then suc (reached s ranges) else 0
+reached (x ∷ s) (r ∷ ranges) = if inside r x then suc (reached s ranges) otherwise 0
 
 unfoldable pub broken_at : List ℕ → ℕ
 broken_at s = reached s []

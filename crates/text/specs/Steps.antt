@@ -1,6 +1,6 @@
 -- What the inner functions ensure.
 use Rattle.std.specs.Prelude.{ℕ, zero, suc, ◌+◌, ◌≤◌, ◌≡◌, Bool, true, false, ◌&&◌, List, [], ◌∷◌, eqb, ltb, length, drop, replicate}
-use Rattle.octets.specs.Bytes.{if◌then◌else◌}
+use Rattle.octets.specs.Bytes.{if◌then◌otherwise◌}
 use Rattle.text.specs.Grammar.{Range, ◌to◌, tail, meets, well_formed}
 use Rattle.text.specs.Place.{reached}
 
@@ -8,14 +8,14 @@ use Rattle.text.specs.Place.{reached}
 
 -- how many bytes follow the first byte x of a character of more than one; 0 where x begins none
 unfoldable pub following : ℕ → ℕ
-following x = if ltb x 0xC2 then 0 else if ltb x 0xE0 then 1 else if ltb x 0xF0 then 2 else if ltb x 0xF5 then 3 else 0
+following x = if ltb x 0xC2 then 0 otherwise if ltb x 0xE0 then 1 otherwise if ltb x 0xF0 then 2 otherwise if ltb x 0xF5 then 3 otherwise 0
 
 -- the range of the byte after x, in a character of more than one
 unfoldable pub second_low : ℕ → ℕ
-second_low x = if eqb x 0xE0 then 0xA0 else if eqb x 0xF0 then 0x90 else 0x80
+second_low x = if eqb x 0xE0 then 0xA0 otherwise if eqb x 0xF0 then 0x90 otherwise 0x80
 
 unfoldable pub second_high : ℕ → ℕ
-second_high x = if eqb x 0xED then 0x9F else if eqb x 0xF4 then 0x8F else 0xBF
+second_high x = if eqb x 0xED then 0x9F otherwise if eqb x 0xF4 then 0x8F otherwise 0xBF
 
 unfoldable pub second : ℕ → Range
 second x = second_low x to second_high x
@@ -41,11 +41,11 @@ pub record Rest (s : List ℕ) (i x n : ℕ) (answer : Bool) : Type 0 where
 -- a character of n bytes stands at place i of s, or none does, and n is 0
 pub record Character (s : List ℕ) (i n : ℕ) : Type 0 where
   pub within : i + n ≤ length s
-  pub same : (if eqb n 0 then false else well_formed (drop (i + n) s)) ≡ well_formed (drop i s)
+  pub same : (if eqb n 0 then false otherwise well_formed (drop (i + n) s)) ≡ well_formed (drop i s)
 
 -- ---- byte by byte
 
 -- y where n bytes were left after x: so many are left after y, or 4 where it can't stand there
 pub record Left (n x y answer : ℕ) : Type 0 where
   pub small : answer ≤ 4
-  pub same : (s : List ℕ) → reached (y ∷ s) (ahead x n) ≡ (if eqb answer 4 then 0 else suc (reached s (ahead y answer)))
+  pub same : (s : List ℕ) → reached (y ∷ s) (ahead x n) ≡ (if eqb answer 4 then 0 otherwise suc (reached s (ahead y answer)))
