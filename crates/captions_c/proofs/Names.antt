@@ -167,7 +167,6 @@ pub record Equations : Type 0 where
   pub date_of_day_lem : (n : ℕ) (r : Date) → DatesDay n r → date_crossed r ≡ date_of_day n
   pub list : (s out : List ℕ) (r : ℕ) (after : List ℕ) → Lists s out r after → (r, after) ≡ listed s out
   pub broken_at_lem : (text : List ℕ) (r : ℕ) → FindsBreak text r → r ≡ broken_at text
-  pub running_order_lem : (s t x out : List ℕ) (r : Answer) (after : List ℕ) → Orders s t x out r after → crossed r after ≡ ordering s t x out
 
 abbrev pub answer : ℕ → ℕ → Answer
 answer number length = record { number = number; length = length }
@@ -229,11 +228,6 @@ pub record Names : Type 0 where
   pub finds_cut : (r : ℕ) → FindsBreak (0x41 ∷ 0xC3 ∷ []) r → r ≡ 2
   pub finds_overlong : (r : ℕ) → FindsBreak (0xE0 ∷ 0x9F ∷ 0xBF ∷ []) r → r ≡ 1
   pub finds_none : (r : ℕ) → FindsBreak (0x41 ∷ 0xE2 ∷ 0x89 ∷ 0xA2 ∷ 0xCE ∷ 0x91 ∷ 0x2E ∷ []) r → r ≡ 7
-  -- seven slots on a day, and an output that is too short by a byte
-  pub orders : (r : Answer) (after : List ℕ) → Orders example_sheet example_terms (ascii "2000-01-21") (replicate 108 7) r after
-      → (r ≡ answer 0 107)
-      × (after ≡ ascii "5 2000-01-01 2000-01-21 41\n0 2000-01-11 2000-01-31 17\n2 2000-01-11 2000-02-10 0\n4 2000-01-21 2000-01-26 40\n" ++ (7 ∷ []))
-  pub orders_not : (r : Answer) (after : List ℕ) → Orders example_sheet example_terms (ascii "2000-01-21") (replicate 106 7) r after → (r ≡ answer 3 0) × (after ≡ replicate 106 7)
 
 -- ---- its proof: the contract's equation, and what its right side comes to
 
@@ -273,7 +267,6 @@ equations =
       date_of_day_lem = λ n r h. h;
       list = λ s out r after h. h;
       broken_at_lem = λ text r h. h;
-      running_order_lem = λ s t x out r after h. h;
     }
 
 pub names : Names
@@ -314,6 +307,26 @@ names =
       finds_cut = λ r h. h ∙ text_laws.texts.cut_off_2.place;
       finds_overlong = λ r h. h ∙ text_laws.texts.overlong_3.place;
       finds_none = λ r h. h ∙ text_laws.texts.example_1.place;
+    }
+
+-- ---- the running order, by its C name
+
+pub record OrderEquation : Type 0 where
+  pub running_order_lem : (s t x out : List ℕ) (r : Answer) (after : List ℕ) → Orders s t x out r after → crossed r after ≡ ordering s t x out
+
+pub record OrderNames : Type 0 where
+  -- seven slots on a day, and an output that is too short by a byte
+  pub orders : (r : Answer) (after : List ℕ) → Orders example_sheet example_terms (ascii "2000-01-21") (replicate 108 7) r after
+      → (r ≡ answer 0 107)
+      × (after ≡ ascii "5 2000-01-01 2000-01-21 41\n0 2000-01-11 2000-01-31 17\n2 2000-01-11 2000-02-10 0\n4 2000-01-21 2000-01-26 40\n" ++ (7 ∷ []))
+  pub orders_not : (r : Answer) (after : List ℕ) → Orders example_sheet example_terms (ascii "2000-01-21") (replicate 106 7) r after → (r ≡ answer 3 0) × (after ≡ replicate 106 7)
+
+pub order_equation : OrderEquation
+order_equation = record { running_order_lem = λ s t x out r after h. h }
+
+pub order_names : OrderNames
+order_names =
+    record {
       orders = λ r after h. crossed_is r after _ (h ∙ exhibited.lines_put);
       orders_not = λ r after h. crossed_is r after _ (h ∙ exhibited.too_short);
     }

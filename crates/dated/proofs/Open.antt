@@ -14,7 +14,8 @@ use Rattle.terms.specs.Terms.{opening, closing}
 use Rattle.terms.specs.Rules.{MeetsTerms, OnShow}
 use Rattle.terms.specs.Laws.{Days}
 use Rattle.terms.proofs.Store.{stored}
-use Rattle.terms.proofs.Meaning.{reflects_terms, show_plain}
+use Rattle.terms.proofs.Meaning.{reflects_terms}
+use Rattle.terms.proofs.Plain.{show_plain}
 use Rattle.dated.specs.Calls.{dating}
 use Rattle.dated.specs.Laws.{always_open}
 use Rattle.dated.proofs.Beside.{beside}

@@ -9,7 +9,7 @@ use Rattle.layout.specs.Layout.{slots}
 use Rattle.captions.specs.Captions.{Keys}
 use Rattle.terms.specs.Terms.{opening, closing}
 use Rattle.terms.specs.Rules.{OnShow}
-use Rattle.terms.proofs.Meaning.{show_plain}
+use Rattle.terms.proofs.Plain.{show_plain}
 use Rattle.dated.specs.Laws.{NoneTo, RefusalsAre}
 
 -- no refusal from 1 to m

@@ -27,7 +27,6 @@ use Rattle.captions.specs.Refusals.{write_clauses, clear_clauses, read_clauses, 
 use Rattle.captions.proofs.Refusals.{sheet_refusals}
 use Rattle.dated.specs.Laws.{dated_clauses}
 use Rattle.dated.proofs.Laws.{dated_reads}
-use Rattle.running_order.proofs.Laws.{running_order_lem}
 use Rattle.exhibits.proofs.Exhibits.{exhibits}
 use Rattle.demands.specs.Demand1.{NoneApplies, Decides, Demand1}
 
@@ -48,7 +47,7 @@ unfolding Answers NoneApplies
 answers_zero [] n = refl
 answers_zero ((m when P) ∷ clauses) n = inr (n.0, answers_zero clauses n.1)
 
-decides : {number : ℕ} {clauses : List Clause} {Left : Type 0} → NoZero clauses → Exactly number clauses → ((number ≡ 0 → ⊥) → Left) → Decides number clauses Left
+pub decides : {number : ℕ} {clauses : List Clause} {Left : Type 0} → NoZero clauses → Exactly number clauses → ((number ≡ 0 → ⊥) → Left) → Decides number clauses Left
 decides {clauses = clauses} z e r =
     record {
       first_that_applies = e.answers;
@@ -92,13 +91,11 @@ demand1 =
       clear = λ s i. decides ((λ e. omega (arith, e)), ((λ e. omega (arith, e)), tt)) (sheet_refusals.clear s i) (sheet_refusals.refused_clear s i);
       read = λ k s i window. decides ((λ e. omega (arith, e)), ((λ e. omega (arith, e)), ((λ e. omega (arith, e)), ((λ e. omega (arith, e)), ((λ e. omega (arith, e)), ((λ e. omega (arith, e)), ((λ e. omega (arith, e)), ((λ e. omega (arith, e)), ((λ e. omega (arith, e)), tt))))))))) (sheet_refusals.read k s i window) (sheet_refusals.refused_read k s i window);
       dated_read = λ k s t i day window. decides ((λ e. omega (arith, e)), ((λ e. omega (arith, e)), ((λ e. omega (arith, e)), ((λ e. omega (arith, e)), ((λ e. omega (arith, e)), ((λ e. omega (arith, e)), ((λ e. omega (arith, e)), ((λ e. omega (arith, e)), ((λ e. omega (arith, e)), ((λ e. omega (arith, e)), ((λ e. omega (arith, e)), ((λ e. omega (arith, e)), tt)))))))))))) (dated_reads.read k s t i day window) (dated_reads.refused k s t i day window);
-      running_order_lem = λ s t x out. decides ((λ e. omega (arith, e)), tt) (running_order_lem.calls.exactly s t x out) (running_order_lem.calls.refused s t x out);
       day_of_date_lem = λ y m d. decides ((λ e. omega (arith, e)), tt) (calendar_laws.date_exactly y m d) (no_day y m d);
       date_of_day_lem = λ n. decides ((λ e. omega (arith, e)), tt) (calendar_laws.day_exactly n) (no_date n);
       places = places;
       key_sizes = λ n. (size n 4 refl, size n 6 refl, size n 8 refl, size n 21 refl, size n 24 refl);
       texts = text_laws;
-      running_orders = running_order_lem;
       block_calls = block_refusals.calls;
       present_block_calls = present_refusals.calls;
       mac_calls = mac_refusals.calls;

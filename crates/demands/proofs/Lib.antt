@@ -12,6 +12,7 @@ pub mod AnyCipher
 pub mod Demand3
 pub mod NoStrangers
 pub mod Demand1
+pub mod Orders
 pub mod Serials
 pub mod ShownText
 pub mod KeyMarks

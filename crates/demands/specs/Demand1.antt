@@ -26,9 +26,6 @@ use Rattle.captions.specs.Calls.{writing, clearing, reading, blanking}
 use Rattle.captions.specs.Refusals.{OtherMark, IsAltered, Leaves, SheetRefusals}
 use Rattle.terms.specs.Rules.{MeetsTerms, OnShow}
 use Rattle.dated.specs.Calls.{dating}
-use Rattle.running_order.specs.Order.{running_order}
-use Rattle.running_order.specs.Calls.{ordering}
-use Rattle.running_order.specs.Laws.{RunningOrder}
 use Rattle.exhibits.specs.Exhibits.{Exhibits}
 
 -- ---- what is said of a call
@@ -141,9 +138,6 @@ pub record Demand1 : Type 0 where
       (wrong_keys k ∷ twin_keys k ∷ wrong_window window ∷ unfit_sheet s ∷ (4 when (MeetsTerms (slots s) t → ⊥)) ∷ other_class k s ∷ (11 when (36524 < day))
       ∷ other_keys k s ∷ no_slot s i ∷ blank s i ∷ (12 when (OnShow (slots s) t i day → ⊥)) ∷ altered k s i ∷ [])
       (Leaves (dating k s t i day window).outcome (zeros (length window)))
-  -- the running order for the date in the text x: 3, where the output is too short for the text. "unfit" and "no such date" are texts
-  pub running_order_lem : (s t x out : List ℕ)
-      → Decides (ordering s t x out).number ((3 when (length out < length (running_order s t x))) ∷ []) (Blocks.Leaves (ordering s t x out) out)
   -- the conversions: 11, and zeros
   pub day_of_date_lem : (y m d : ℕ) → Decides (day_of_date y m d).number ((11 when (IsDate y m d → ⊥)) ∷ []) ((day_of_date y m d).day ≡ 0)
   pub date_of_day_lem : (n : ℕ)
@@ -154,8 +148,6 @@ pub record Demand1 : Type 0 where
   pub key_sizes : (n : ℕ) → (KeyFits n 4 ↔ (n ≡ 8)) × (KeyFits n 6 ↔ (n ≡ 12)) × (KeyFits n 8 ↔ (n ≡ 16)) × (KeyFits n 21 ↔ (n ≡ 10)) × (KeyFits n 24 ↔ (n ≡ 16))
   -- what well-formed text is: the encoding of code points, and of no others
   pub texts : TextLaws
-  -- which text a running order is, with calls in plain values
-  pub running_orders : RunningOrder
   -- calls of each kind, accepted and refused, in plain values
   pub block_calls : BlockCalls
   pub present_block_calls : PresentCalls

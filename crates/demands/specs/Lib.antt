@@ -1,6 +1,7 @@
 pub mod Ciphers
 pub mod Steps
 pub mod Demand1
+pub mod Orders
 pub mod Demand2
 pub mod Premises
 pub mod Witnesses

@@ -1,17 +1,16 @@
 -- The statement on term sheets.
-use Prim.Native.Nat.{ℕ, ◌+◌, ◌*◌, ◌≤◌}
-use mathlib.Core.Path.{◌≡◌, refl, ◌∙◌}
+use Prim.Native.Nat.{ℕ, ◌≤◌}
+use mathlib.Core.Path.{◌≡◌, refl}
 use mathlib.Core.List.{List}
 use mathlib.Core.Logic.{◌↔◌}
-use native.Mathlib.Omega.{arith}
 use lib.ListN.{length, get_or}
 use Rattle.octets.specs.Bytes.{be, number, all_below}
 use Rattle.octets.proofs.Clauses.{reflects_yes}
-use Rattle.octets.proofs.Numbers.{number_two}
 use Rattle.octets.proofs.EveryByte.{bytes_at, bytes_of}
 use Rattle.terms.specs.Terms.{count, opening, closing, fit_terms, on_show}
 use Rattle.terms.specs.Laws.{day_bytes, term_sheet, Days, TermSheets}
-use Rattle.terms.proofs.Meaning.{reflects_terms, reflects_show, meets_plain, show_plain, one_day, no_other_day, never}
+use Rattle.terms.proofs.Meaning.{reflects_terms, reflects_show, meets_plain, never}
+use Rattle.terms.proofs.Plain.{show_plain, one_day, no_other_day}
 use Rattle.terms.proofs.Store.{stored}
 use Rattle.terms.proofs.Only.{only}
 
@@ -22,15 +21,6 @@ days openings closings = (
   λ d. (d.as_many, d.few, λ i. (d.opening_days i, d.closing_days i)),
   λ h. record { as_many = h.0; few = h.1; opening_days = λ i. (h.2 i).0; closing_days = λ i. (h.2 i).1 },
 )
-
--- where the days stand
-opens_at : (t : List ℕ) (i : ℕ) → 4 + 2 * i ≤ length t → opening t i ≡ get_or t (2 + 2 * i) 0 * 256 + get_or t (3 + 2 * i) 0
-unfolding opening
-opens_at t i h = let e : 2 + 2 * i + 1 ≡ 3 + 2 * i = omega arith in number_two t (2 + 2 * i) (omega arith) ∙ rw e
-
-closes_at : (n : ℕ) (t : List ℕ) (i : ℕ) → 4 + 2 * n + 2 * i ≤ length t → closing n t i ≡ get_or t (2 + 2 * n + 2 * i) 0 * 256 + get_or t (3 + 2 * n + 2 * i) 0
-unfolding closing
-closes_at n t i h = let e : 2 + 2 * n + 2 * i + 1 ≡ 3 + 2 * n + 2 * i = omega arith in number_two t (2 + 2 * n + 2 * i) (omega arith) ∙ rw e
 
 pub term_sheets : TermSheets
 unfolding count opening closing fit_terms on_show all_below number day_bytes term_sheet be
@@ -47,8 +37,6 @@ term_sheets =
       only = only;
       bytes = λ t. (λ b i l. bytes_at t i b, bytes_of t);
       days = days;
-      opens_at = opens_at;
-      closes_at = closes_at;
       two_count = refl;
       two_openings = refl;
       two_closings = refl;

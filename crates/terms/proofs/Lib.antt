@@ -1,5 +1,7 @@
 pub mod Terms
 pub mod Meaning
+pub mod Plain
 pub mod Store
 pub mod Only
 pub mod Laws
+pub mod Places

@@ -9,7 +9,7 @@ use lib.Dec.{leb}
 use lib.ListN.{length}
 use borrow.Author.Tests.{leb-true, le-leb}
 use Rattle.octets.specs.Bytes.{all_below}
-use Rattle.octets.proofs.Clauses.{Reflects, reflects_and, reflects_as, reflects_yes, reflects_no, reflects_eqb, reflects_leb}
+use Rattle.octets.proofs.Clauses.{Reflects, reflects_and, reflects_as, reflects_eqb, reflects_leb}
 use Rattle.octets.proofs.Compare.{all_below_true, all_below_at}
 use Rattle.terms.specs.Terms.{count, opening, closing, fit_terms, on_show}
 use Rattle.terms.specs.Rules.{MeetsTerms, OnShow}
@@ -44,18 +44,6 @@ meets_plain n t = (
   λ m. (m.same_count, m.size, λ i l. (m.openings i l, m.closings i l)),
   λ h. record { same_count = h.0; size = h.1; openings = λ i l. (h.2 i l).0; closings = λ i l. (h.2 i l).1 },
 )
-
-pub show_plain : (n : ℕ) (t : List ℕ) (i day : ℕ) → OnShow n t i day ↔ ((opening t i ≤ day) × (day ≤ closing n t i))
-show_plain n t i day = (λ o. (o.from, o.to), λ h. record { from = h.0; to = h.1 })
-
--- a term of one day
-module _ (n : ℕ) (t : List ℕ) (i day : ℕ) (e : opening t i ≡ day) (f : closing n t i ≡ day) where
-  pub one_day : on_show n t i day ≡ true
-  one_day = reflects_yes (reflects_show n t i day) ((show_plain n t i day).1 (omega (arith, e), omega (arith, f)))
-
-  pub no_other_day : (other : ℕ) → (other ≡ day → ⊥) → on_show n t i other ≡ false
-  no_other_day other d =
-      reflects_no (reflects_show n t i other) (λ o. let h = (show_plain n t i other).0 o in d (omega (arith, h.0, h.1, e, f)))
 
 pub never : (n : ℕ) (t : List ℕ) (i day : ℕ) → closing n t i < opening t i → on_show n t i day ≡ false
 never n t i day l = go (on_show n t i day) refl

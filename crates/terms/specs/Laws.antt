@@ -62,9 +62,6 @@ pub record TermSheets : Type 0 where
   pub bytes : (t : List ℕ) → Bytes t ↔ ((i : ℕ) → i < length t → get_or t i 0 < 256)
   pub days : (openings closings : List ℕ) → Days openings closings
       ↔ ((length closings ≡ length openings) × (length openings ≤ 256) × ((i : ℕ) → (get_or openings i 0 ≤ 36524) × (get_or closings i 0 ≤ 36524)))
-  -- where the days of a slot stand, 2 bytes each, high byte first
-  pub opens_at : (t : List ℕ) (i : ℕ) → 4 + 2 * i ≤ length t → opening t i ≡ get_or t (2 + 2 * i) 0 * 256 + get_or t (3 + 2 * i) 0
-  pub closes_at : (n : ℕ) (t : List ℕ) (i : ℕ) → 4 + 2 * n + 2 * i ≤ length t → closing n t i ≡ get_or t (2 + 2 * n + 2 * i) 0 * 256 + get_or t (3 + 2 * n + 2 * i) 0
   -- n, openings and closings of a term sheet of two slots, byte by byte
   pub two_count : count two_terms ≡ 2
   pub two_openings : ◌≡◌ {A = List ℕ} (opening two_terms 0 ∷ opening two_terms 1 ∷ []) (258 ∷ 3 ∷ [])
@@ -75,3 +72,8 @@ pub record TermSheets : Type 0 where
   pub two_shown : map (on_show 2 two_terms 0) (257 ∷ 258 ∷ 36524 ∷ []) ≡ false ∷ true ∷ true ∷ []
   pub two_never : map (on_show 2 two_terms 1) (2 ∷ 3 ∷ []) ≡ false ∷ false ∷ []
   pub fifth_shown : map (on_show 1 fifth_day 0) (4 ∷ 5 ∷ 6 ∷ []) ≡ false ∷ true ∷ false ∷ []
+
+-- where the days of a slot stand, 2 bytes each, high byte first
+pub record TermPlaces : Type 0 where
+  pub opens_at : (t : List ℕ) (i : ℕ) → 4 + 2 * i ≤ length t → opening t i ≡ get_or t (2 + 2 * i) 0 * 256 + get_or t (3 + 2 * i) 0
+  pub closes_at : (n : ℕ) (t : List ℕ) (i : ℕ) → 4 + 2 * n + 2 * i ≤ length t → closing n t i ≡ get_or t (2 + 2 * n + 2 * i) 0 * 256 + get_or t (3 + 2 * n + 2 * i) 0
