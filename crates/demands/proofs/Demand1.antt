@@ -32,7 +32,7 @@ use Rattle.demands.specs.Demand1.{NoneApplies, Decides, Demand1}
 
 -- ---- where no clause gives 0, a call answers 0 exactly if none applies
 
-unfoldable NoZero : List Clause → Type 0
+unfoldable pub NoZero : List Clause → Type 0
 NoZero [] = Unit {0}
 NoZero ((n when P) ∷ clauses) = (0 ≡ n → ⊥) × NoZero clauses
 
