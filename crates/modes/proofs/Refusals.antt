@@ -14,7 +14,7 @@ use Rattle.schedule.specs.Schedule.{by_count, forward_words, forward4, forward6,
 use Rattle.mcrypton.specs.Cipher.{by_words, after_by, steps, encrypt_block}
 use Rattle.mcrypton.specs.Bytes.{key_length, words_of, bytes_of, encrypt_bytes}
 use Rattle.octets.specs.BlockCalls.{Leaves}
-use Rattle.mcrypton.proofs.Refusals.{reflects_length}
+use Rattle.mcrypton.proofs.KeyLengths.{reflects_length}
 use Rattle.modes.specs.Xor.{xor_bytes}
 use Rattle.modes.specs.Cmac.{shift_left, double, block_count, last_block, message_block, chain, cmac}
 use Rattle.modes.specs.Answers.{mac_number, mac_length, mac_outcome, authenticating}

@@ -19,7 +19,7 @@ use Rattle.mcrypton.specs.Vectors.{key4}
 use Rattle.std.proofs.num.wrapping_add_u64.Reads as wrapping_add
 use Rattle.mcrypton.proofs.Paths.{same_steps}
 use Rattle.mcrypton.proofs.ByteBlocks.{length_bytes, bytes_bytes, block_encrypted}
-use Rattle.mcrypton.proofs.Refusals.{reflects_length}
+use Rattle.mcrypton.proofs.KeyLengths.{reflects_length}
 use Rattle.octets.specs.Block.{ByteBlock}
 use Rattle.cipher.proofs.Promise.{mcrypton_invertible}
 use Rattle.modes.specs.Xor.{xor_bytes}
