@@ -1,12 +1,13 @@
 // Reads a sheet from standard input and writes its listing. One byte more than the largest sheet has is read, so that a longer input is seen to be too long.
 #![tactic(auto)]
 
-use std::io;
-
-fn main(rt: HostRuntime) -> io::Result<()> {
+fn main(rt: HostRuntime) {
     let mut sheet = [0u8; 53265];
     let n = show::fill(&mut rt.stdin(), &mut sheet);
     let mut text = [0u8; 10553];
     let k = listing::list(&sheet[..n], &mut text);
-    rt.write_all(&text[..k])
+    // The status is 0 whatever comes of it.
+    match rt.write_all(&text[..k]) {
+        Ok(()) | Err(_) => {}
+    }
 }

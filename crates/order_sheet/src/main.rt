@@ -5,7 +5,6 @@ ghost use Rattle.std.specs.Prelude.{◌≡◌, ◌≤◌, length, take};
 
 use running_order::OrderAnswer;
 use std::fs::File;
-use std::io;
 use std::io::Read;
 use std::rt::{Env, Files};
 
@@ -33,7 +32,7 @@ fn load<R: Env + Files>(rt: &R, i: usize, buf: &mut [u8]) -> usize
 
 // The largest sheet of each kind has 53264 and 1026 bytes, and no text is longer than 7570. A date that is missing, or longer than its
 // place, is no bytes, and so no date's text.
-fn main(rt: HostRuntime) -> io::Result<()> {
+fn main(rt: HostRuntime) {
     let mut sheet = [0u8; 53264];
     let n = load(&rt, 1, &mut sheet);
     let mut terms = [0u8; 1026];
@@ -43,8 +42,11 @@ fn main(rt: HostRuntime) -> io::Result<()> {
     let mut text = [0u8; 7570];
     let a = running_order::order(&sheet[..n], &terms[..m], &date[..d], &mut text);
     let OrderAnswer::Put(k) = a else {
-        return Ok(());
+        return;
     };
     let k = k as usize;
-    rt.write_all(&text[..k])
+    // The status is 0 whatever comes of it.
+    match rt.write_all(&text[..k]) {
+        Ok(()) | Err(_) => {}
+    }
 }
