@@ -1,7 +1,7 @@
 // Prints L, K1, K2, C_0 to C_n and T of CMAC for messages of several lengths: what the second program prints as `vectors steps`.
 #![tactic(auto)]
 
-ghost use Rattle.std.specs.Prelude.{◌≡◌, ◌++◌, ◌≤◌, length, IfOk};
+ghost use Rattle.std.specs.Prelude.{◌≡◌, ◌++◌, ◌≤◌, length};
 ghost use Rattle.octets.specs.Bytes.{zeros};
 ghost use Rattle.cipher.specs.Key.{encrypted};
 ghost use Rattle.modes.specs.Cmac.{chain_value};
@@ -35,7 +35,7 @@ fn chained<R: Print>(rt: &R, key: &[u8], len: usize, i: usize, value: [u8; 8]) -
     end(rt, value)
 }
 
-// Step 6 on one part of the message, each value printed: C_to, made of C_from, which is begin.
+// Step 6 on one part of the message, each value printed: C_to, made of C_from, which is begin. A value that can't be printed is passed over.
 fn part<R: Print>(
     rt: &R,
     key: &[u8],
@@ -47,18 +47,20 @@ fn part<R: Print>(
     from: usize,
     to: usize,
     begin: [u8; 8],
-) -> io::Result<[u8; 8]>
+) -> [u8; 8]
     requires blocks_in { BlocksIn (head.now ++ rest.now) s.now from to }
     requires begin_value { begin ≡ chain_value (encrypted k) (zeros 8) (head.now ++ rest.now) from }
-    ensures { IfOk result (λ value. value ≡ chain_value (encrypted k) (zeros 8) (head.now ++ rest.now) to) }
+    ensures { result ≡ chain_value (encrypted k) (zeros 8) (head.now ++ rest.now) to }
 {
     let mut c = begin;
     for j in from..to {
         let next = modes::chain_next(k, head, rest, j + 1, c, octets::block_at(s, 8 * (j - from)));
         c = next;
-        chained(rt, key, len, j + 1, c)?;
+        match chained(rt, key, len, j + 1, c) {
+            Ok(()) | Err(_) => {}
+        }
     }
-    Ok(c)
+    c
 }
 
 // The steps of SP 800-38B to C_n, for the message head ‖ rest of len bytes: the library's functions in the order of its own CMAC.
@@ -79,8 +81,8 @@ fn steps<R: Print>(rt: &R, key: &[u8], len: usize, head: &[u8], rest: &[u8]) -> 
     let last = modes::last_block(k1, k2, &rest[a..]);
     let c0 = modes::chain_start();
     chained(rt, key, len, 0, c0)?;
-    let c_h = part(rt, key, len, k, head, rest, head, 0, h, c0)?;
-    let c_before = part(rt, key, len, k, head, rest, rest, h, n - 1, c_h)?;
+    let c_h = part(rt, key, len, k, head, rest, head, 0, h, c0);
+    let c_before = part(rt, key, len, k, head, rest, rest, h, n - 1, c_h);
     chained(
         rt,
         key,

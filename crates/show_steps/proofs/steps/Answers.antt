@@ -17,14 +17,14 @@ slice_bounds-last_block-start g c = search (rest_inside, rules)
 pub last_block-last-requires : goal.last_block-last-requires
 last_block-last-requires g c = search (last_short, rules)
 
-pub part-requires : goal.part-requires
-part-requires g c = record { blocks_in = search (blocks_in_first, rules); begin_value = c.chain_start-c0.ensures _ _ }
+pub part-c_h-requires : goal.part-c_h-requires
+part-c_h-requires g c = record { blocks_in = search (blocks_in_first, rules); begin_value = c.chain_start-c0.ensures _ _ }
 
 pub overflow_sub-n : goal.overflow_sub-n
 overflow_sub-n g c = search (one_at_least, rules)
 
-pub part-requires-2 : goal.part-requires-2
-part-requires-2 g c = record { blocks_in = search (blocks_in_second, rules); begin_value = search rules }
+pub part-c_before-requires : goal.part-c_before-requires
+part-c_before-requires g c = record { blocks_in = search (blocks_in_second, rules); begin_value = search rules }
 
 pub chain_next-requires : goal.chain_next-requires
 chain_next-requires g c = record { i_nonzero = (search (one_at_least, rules), search (last_is, rules)); c_value = search rules }
