@@ -14,7 +14,7 @@ use Rattle.present.specs.Bytes.{round_keys, encrypt_bytes as present_encrypt, de
 use Rattle.present.specs.Present.{encrypt, decrypt}
 use Rattle.present_schedule.specs.Schedule.{round_key80, round_key128}
 use Rattle.present.proofs.Vectors.{vectors}
-use Rattle.cipher.specs.Key.{present_class, class_known, key_bytes, sheet_key_length, encrypt_by, decrypt_by}
+use Rattle.cipher.specs.Key.{present_class, class_known, key_bytes, sheet_key_length, loaded, encrypted, decrypted, encrypt_by, decrypt_by}
 use Rattle.cipher.proofs.Promise.{class_encrypts, class_decrypts}
 use Rattle.cipher.proofs.Promised.{class_ciphers, promise}
 use Rattle.layout.specs.Layout.{edition_of, key_class, blank_sheet}
@@ -44,15 +44,19 @@ module _ (k : Keys) (t : ℕ) (w : wrong_keys k ≡ false) (size : length k.seal
       (and_right (sheet_key_length (length k.checking)) _ (and_right (sheet_key_length (length k.sealing)) _ keys_right)))
       ∙ size
 
+  sealing_encrypts : (p : ℕ) → encrypt_by t p k.sealing ≡ encrypted (loaded t k.sealing)
+  sealing_encrypts p = λ i b. sym (class_encrypts t k.sealing size p b) i
+
+  sealing_decrypts : (q : ℕ) → decrypt_by t q k.sealing ≡ decrypted (loaded t k.sealing)
+  sealing_decrypts q = λ i b. sym (class_decrypts t k.sealing size q b) i
+
+  checking_encrypts : (p : ℕ) → encrypt_by t p k.checking ≡ encrypted (loaded t k.checking)
+  checking_encrypts p = λ i b. sym (class_encrypts t k.checking as_long p b) i
+
   -- by any path numbers, the keys loaded for the class
   pub paths_loaded : (p q : ℕ) → by_paths t p q k ≡ loaded_for t k
   unfolding by_paths loaded_for
-  paths_loaded p q =
-      λ i. record {
-        E = λ b. sym (class_encrypts t k.sealing size p b) i;
-        D = λ b. sym (class_decrypts t k.sealing size q b) i;
-        M = λ b. sym (class_encrypts t k.checking as_long p b) i;
-      }
+  paths_loaded p q = rw (sealing_encrypts p, sealing_decrypts q, checking_encrypts p)
 
   sound_loaded : class_known t ≡ true → Bytes k.sealing → Bytes k.checking → Sound (loaded_for t k)
   unfolding loaded_for

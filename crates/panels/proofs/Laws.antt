@@ -96,7 +96,7 @@ sooner p k first x h =
 
 module _ (k : List ℕ) (first : ℕ) (hk : OneOf (8 ∷ 12 ∷ 16 ∷ []) (length k)) where
   answer : (x out : List ℕ) → length out ≡ length x → length x ≤ 65536 → panelling k first x out ≡ panel_outcome Accepted (ctr (encrypt_bytes 0 k) first x)
-  answer x out n l = sym (accepts k first x out true (sym (reflects_yes (reflects_length (length k)) hk)) refl n l)
+  answer x out n l = sym (accepts k first x out true (sym (reflects_yes (reflects_length (length k)) hk)) refl n (omega (arith, l)))
 
   sealed : (p : ℕ) (x out : List ℕ) → length out ≡ length x → length x ≤ 65536 → Sealed p k first x out
   unfolding panel_outcome
