@@ -9,7 +9,7 @@ use mathlib.Core.Logic.{◌≢◌}
 use mathlib.Core.Bool.{true, false}
 use mathlib.Core.List.{List}
 use native.Mathlib.Omega.{arith}
-use Rattle.cipher.specs.Key.{mcrypton_class, class_known}
+use Rattle.cipher.specs.Key.{mcrypton_class, class_known, encrypt_by, decrypt_by}
 use Rattle.cipher.specs.Promise.{ClassKey}
 use Rattle.cipher.proofs.Promise.{mcrypton_known}
 use Rattle.cipher.proofs.Promised.{promise}
@@ -51,14 +51,18 @@ module _ (t : ℕ) (k : Keys) (known : class_known t ≡ true) (u : UnlikeKeys t
   unfolding by_paths
   sound p = record { seals = (promise sealing_key_lem).by_paths_lem p p; checks = ((promise checking_key_lem).by_paths_lem p p).encrypts }
 
+  sealing_alike : (p p' : ℕ) → encrypt_by t p k.sealing ≡ encrypt_by t p' k.sealing
+  sealing_alike p p' = λ i b. (sym ((promise sealing_key_lem).encrypts p b) ∙ (promise sealing_key_lem).encrypts p' b) i
+
+  opening_alike : (p p' : ℕ) → decrypt_by t p k.sealing ≡ decrypt_by t p' k.sealing
+  opening_alike p p' = λ i b. (sym ((promise sealing_key_lem).decrypts p b) ∙ (promise sealing_key_lem).decrypts p' b) i
+
+  checking_alike : (p p' : ℕ) → encrypt_by t p k.checking ≡ encrypt_by t p' k.checking
+  checking_alike p p' = λ i b. (sym ((promise checking_key_lem).encrypts p b) ∙ (promise checking_key_lem).encrypts p' b) i
+
   paths_same : (p p' : ℕ) → by_paths t p p k ≡ by_paths t p' p' k
   unfolding by_paths
-  paths_same p p' =
-      λ i. record {
-        E = λ b. (sym ((promise sealing_key_lem).encrypts p b) ∙ (promise sealing_key_lem).encrypts p' b) i;
-        D = λ b. (sym ((promise sealing_key_lem).decrypts p b) ∙ (promise sealing_key_lem).decrypts p' b) i;
-        M = λ b. (sym ((promise checking_key_lem).encrypts p b) ∙ (promise checking_key_lem).encrypts p' b) i;
-      }
+  paths_same p p' = rw (sealing_alike p p', opening_alike p p', checking_alike p p')
 
   -- start blocks of unlike tails are unlike
   tails_apart : (p p' a a' x x' w w' i i' : ℕ) → a ≡ x → a' ≡ x' → x < 65536 → x' < 65536 → x ≢ x'
