@@ -29,7 +29,7 @@ extern "C" {
 /* The version of this header, and that of the library that is linked. The two
  * are meant to be equal; where they aren't, a call may not be as it is declared
  * here. The text is the library's own and stays. */
-#define CAPTIONS_VERSION "0.7.2"
+#define CAPTIONS_VERSION "0.7.1"
 const char *captions_version(void);
 
 /* What a call answers, reads and writes aside: number is CAPTIONS_ACCEPTED or a

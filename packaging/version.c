@@ -5,5 +5,5 @@ const char *captions_version(void);
 
 const char *captions_version(void)
 {
-    return "0.7.2";
+    return "0.7.1";
 }

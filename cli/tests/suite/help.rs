@@ -50,8 +50,8 @@ fn help_as_people_ask_for_it() {
     run(&["help", "open"]).failed(64, "no command open");
     run(&["help", "list", "read"]).failed(64, "help takes one command");
     run(&["list", "--", "--help"]).failed(66, "--help: No such file");
-    assert_eq!(printed(&["--version"]), "captions 0.7.2\n");
-    assert_eq!(printed(&["-V"]), "captions 0.7.2\n");
+    assert_eq!(printed(&["--version"]), "captions 0.7.1\n");
+    assert_eq!(printed(&["-V"]), "captions 0.7.1\n");
 }
 
 /// A section's items: terms, and texts with their lines joined.

@@ -4,7 +4,7 @@
 use crate::edition::Edition;
 use crate::letters::good_text;
 use crate::random::Random;
-use crate::refusals::{call_for, Call, Start, WAYS};
+use crate::refusals::{call_for, Call, WAYS};
 use crate::support::*;
 use crate::term_sheet::*;
 use reference::Pointed;
@@ -146,16 +146,11 @@ fn a_dated_read_gives_the_first_refusal_of_every_set_and_zeroes_its_window() {
             .into_iter()
             .map(move |edition| (set, edition))
     };
-    // By edition and class.
-    let starts = Edition::ALL.map(|edition| -> Vec<[Start; WAYS]> {
-        let of_class = |t: &usize| Start::of_ways(&mut random, (edition, *t));
-        classes_of(edition).iter().map(of_class).collect()
-    });
     for (set, edition) in Set::all().flat_map(with_edition) {
         for way in 0..WAYS {
-            let starts = &starts[usize::from(edition.number()) - 1];
-            let starts = &starts[(way + usize::from(set.0)) % starts.len()];
-            let call = call_for(&set.undated(), starts, way, &mut random);
+            let classes = classes_of(edition);
+            let kind = (edition, classes[(way + usize::from(set.0)) % classes.len()]);
+            let call = call_for(&set.undated(), kind, way, &mut random);
             let (terms, day) = set.terms_and_day(way, &mut random);
             let (answer, window) = dated(&call, &terms, day);
             if set.first() == 0 {

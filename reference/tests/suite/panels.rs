@@ -32,9 +32,7 @@ fn counter_by_hand(first: u64, i: usize) -> [u8; 8] {
 /// A sealed panel: byte i is byte i of the panel, and byte i mod 8 of the
 /// encryption of counter block i / 8 added to it.
 pub fn sealed_by_hand(key: &[u8], first: u64, panel: &[u8]) -> Vec<u8> {
-    let encrypted = |block| encrypt(key, counter_by_hand(first, block));
-    let encrypted: Vec<[u8; 8]> = (0..panel.len().div_ceil(8)).map(encrypted).collect();
-    let byte = |i: usize| panel[i] ^ encrypted[i / 8][i % 8];
+    let byte = |i: usize| panel[i] ^ encrypt(key, counter_by_hand(first, i / 8))[i % 8];
     (0..panel.len()).map(byte).collect()
 }
 

@@ -6,7 +6,7 @@ use crate::edition::Edition;
 use crate::faults::{mixed_sheet, numbers_on, written_sheet};
 use crate::flips::in_key_mark;
 use crate::random::Random;
-use crate::refusals::{call_for, first, read_sets, write_sets, Start, WAYS};
+use crate::refusals::{call_for, first, read_sets, write_sets, WAYS};
 use crate::support::*;
 use crate::term_sheet::*;
 use reference::Pointed;
@@ -171,9 +171,7 @@ fn every_call_with_every_bit_of_a_sheet_flipped() {
                 parts.iter().any(|part| part.contains(&byte))
             };
             let own = (0..3).find(has_byte).unwrap_or(0);
-            let mut slots = vec![own, bit % 3];
-            slots.dedup();
-            for slot in slots {
+            for slot in [own, bit % 3] {
                 let expected = after_flip(&keys, edition, [&sheet, &flipped], byte, slot);
                 assert_eq!(pointed_read(&keys, &flipped, slot), expected, "{bit}");
             }
@@ -204,10 +202,9 @@ fn numbers_of(set: &[u8], sheet: &[u8]) -> Numbers {
 fn a_read_and_a_write_point_by_their_first_refusal_of_every_set() {
     let mut random = Random::new(163);
     for kind in kinds() {
-        let starts = Start::of_ways(&mut random, kind);
         for set in write_sets(kind.0) {
             for way in 0..WAYS {
-                let call = call_for(&set, &starts, way, &mut random);
+                let call = call_for(&set, kind, way, &mut random);
                 let keys = (call.sealing, call.checking);
                 let answer = pointed_write(&keys, &call.sheet, call.slot, &call.caption);
                 let expected = pointed(refused(first(&set)), numbers_of(&set, &call.sheet));
@@ -216,7 +213,7 @@ fn a_read_and_a_write_point_by_their_first_refusal_of_every_set() {
         }
         for set in read_sets(kind.0) {
             for way in 0..WAYS {
-                let call = call_for(&set, &starts, way, &mut random);
+                let call = call_for(&set, kind, way, &mut random);
                 let answer = reference::read(
                     &call.sealing,
                     &call.checking,

@@ -2,7 +2,6 @@
 
 use crate::edition::Edition;
 use crate::random::Random;
-use crate::vectors::FAULTS;
 use std::ffi::OsStr;
 use std::io::Write;
 use std::process::{Command, Output, Stdio};
@@ -42,7 +41,7 @@ fn the_program_prints_each_kind_of_vectors() {
         ("panel", panels()),
         ("marks", marks()),
         ("sheet", sheet()),
-        ("faults", FAULTS.clone()),
+        ("faults", faults()),
         ("dated", dated()),
         ("classes", classes()),
         ("texts", texts()),

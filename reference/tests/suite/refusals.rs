@@ -221,53 +221,22 @@ fn overlong(random: &mut Random, length: usize, broken: bool) -> Vec<u8> {
     caption
 }
 
-/// What a call is made from: keys, a sheet of theirs that is blank, and the same
-/// with a caption in slot 1.
-pub struct Start {
-    edition: Edition,
-    t: usize,
-    keys: (Vec<u8>, Vec<u8>),
-    blank: Vec<u8>,
-    written: Vec<u8>,
-    caption: Vec<u8>,
-}
-
-impl Start {
-    fn new(random: &mut Random, (edition, t): (Edition, usize)) -> Start {
-        let keys = unlike(random, t);
-        let blank = blank_for(edition, &keys, 3, t);
-        let caption = good_text(random, 40);
-        let mut written = blank.clone();
-        assert_eq!(write(&keys, &mut written, 1, &caption), accepted(0));
-        Start {
-            edition,
-            t,
-            keys,
-            blank,
-            written,
-            caption,
-        }
-    }
-
-    /// One for each way, made once for all sets.
-    pub fn of_ways(random: &mut Random, kind: (Edition, usize)) -> [Start; WAYS] {
-        std::array::from_fn(|_| Start::new(random, kind))
-    }
-}
-
 /// A call to which each refusal of the set applies, whatever else does, and 14
 /// and 15 only where they are in the set: `way` chooses among ways of provoking one.
-pub fn call_for(set: &[u8], starts: &[Start; WAYS], way: usize, random: &mut Random) -> Call {
+pub fn call_for(
+    set: &[u8],
+    (edition, t): (Edition, usize),
+    way: usize,
+    random: &mut Random,
+) -> Call {
     let provoke = |number| set.contains(&number);
-    let start = &starts[way];
-    let (edition, t) = (start.edition, start.t);
-    let mut keys = start.keys.clone();
+    let mut keys = unlike(random, t);
+    let mut sheet = blank_for(edition, &keys, 3, t);
     let slot = 1;
-    let mut sheet = if provoke(9) {
-        start.blank.clone()
-    } else {
-        start.written.clone()
-    };
+    let caption = good_text(random, 40);
+    if !provoke(9) {
+        assert_eq!(write(&keys, &mut sheet, slot, &caption), accepted(0));
+    }
     if provoke(8) {
         set_w(&mut sheet, u32::MAX);
     }
@@ -289,9 +258,7 @@ pub fn call_for(set: &[u8], starts: &[Start; WAYS], way: usize, random: &mut Ran
     if provoke(2) {
         keys.1 = keys.0.clone();
     }
-    if keys != start.keys {
-        put_mark(&mut sheet, &keys);
-    }
+    put_mark(&mut sheet, &keys);
     if provoke(14) {
         unmark(&mut sheet, &keys, way + set.len());
     }
@@ -310,7 +277,7 @@ pub fn call_for(set: &[u8], starts: &[Start; WAYS], way: usize, random: &mut Ran
         caption: match (provoke(7), provoke(15)) {
             (true, broken) => overlong(random, [193, 194, 65728][way % 3], broken),
             (false, true) => bad_text(random, [1, 2, 40, 191, 192][way % 5]),
-            (false, false) => start.caption.clone(),
+            (false, false) => caption,
         },
         window: vec![
             0xee;
@@ -327,10 +294,9 @@ pub fn call_for(set: &[u8], starts: &[Start; WAYS], way: usize, random: &mut Ran
 fn a_write_gives_the_first_refusal_of_every_set() {
     let mut random = Random::new(71);
     for (edition, t) in kinds() {
-        let starts = Start::of_ways(&mut random, (edition, t));
         for set in write_sets(edition) {
             for way in 0..WAYS {
-                let mut call = call_for(&set, &starts, way, &mut random);
+                let mut call = call_for(&set, (edition, t), way, &mut random);
                 let before = call.sheet.clone();
                 let answer = unpointed(reference::write(
                     &call.sealing,
@@ -350,10 +316,9 @@ fn a_write_gives_the_first_refusal_of_every_set() {
 fn a_read_gives_the_first_refusal_of_every_set_and_zeroes_its_window() {
     let mut random = Random::new(72);
     for (edition, t) in kinds() {
-        let starts = Start::of_ways(&mut random, (edition, t));
         for set in read_sets(edition) {
             for way in 0..WAYS {
-                let mut call = call_for(&set, &starts, way, &mut random);
+                let mut call = call_for(&set, (edition, t), way, &mut random);
                 let answer = unpointed(reference::read(
                     &call.sealing,
                     &call.checking,

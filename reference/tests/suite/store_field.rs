@@ -5,7 +5,7 @@ use crate::broken::NOWHERE;
 use crate::edition::Edition;
 use crate::letters::{bad_text, good_text};
 use crate::random::Random;
-use crate::refusals::{call_for, first, write_sets, Start, WAYS};
+use crate::refusals::{call_for, first, write_sets, WAYS};
 use crate::support::*;
 use reference::modes::cbc_decrypt;
 use reference::{Answer, Pointed};
@@ -91,10 +91,9 @@ fn the_field_is_sealed_as_it_is() {
 fn it_gives_the_first_refusal_of_every_set() {
     let mut random = Random::new(152);
     for (edition, t) in kinds() {
-        let starts = Start::of_ways(&mut random, (edition, t));
         for set in write_sets(edition) {
             for way in 0..WAYS {
-                let call = call_for(&set, &starts, way, &mut random);
+                let call = call_for(&set, (edition, t), way, &mut random);
                 let length = if set.contains(&7) {
                     [193, 256, 65535][way % 3]
                 } else {

@@ -9,7 +9,6 @@ use crate::term_sheet::{term_sheet, ALWAYS, NEVER};
 use reference::text::encode;
 use reference::{breaks_at, vectors, well_formed};
 use std::str::from_utf8;
-use std::sync::LazyLock;
 
 /// Octets on each side of each edge.
 const EDGES: [u8; 10] = [0x00, 0x7f, 0x80, 0x8f, 0x90, 0x9f, 0xa0, 0xbf, 0xc0, 0xff];
@@ -24,7 +23,7 @@ fn place_of_error(text: &[u8]) -> usize {
     let start = error.valid_up_to();
     match error.error_len() {
         None => text.len(),
-        Some(1) if !BEGINS[usize::from(text[start])] => start,
+        Some(1) if !can_go_on(&text[start..=start]) => start,
         Some(length) => start + length,
     }
 }
@@ -32,19 +31,11 @@ fn place_of_error(text: &[u8]) -> usize {
 /// Whether some well-formed text begins with this one: if one does, then one
 /// that is at most three bytes longer, and of these any but the first may be 80.
 fn can_go_on(text: &[u8]) -> bool {
-    let mut longer = text.to_vec();
-    let mut ends_well = |end: &[u8]| {
-        longer.truncate(text.len());
-        longer.extend(end);
-        from_utf8(&longer).is_ok()
-    };
-    let mut goes_on = |byte| (1..=3).any(|more| ends_well(&[byte, 0x80, 0x80][..more]));
-    (0x80..=0xbf).any(&mut goes_on) || from_utf8(text).is_ok()
+    let ends =
+        (0x80..=0xbf).flat_map(|byte| [1, 2, 3].map(|more| [byte, 0x80, 0x80][..more].to_vec()));
+    let mut ends = std::iter::once(Vec::new()).chain(ends);
+    ends.any(|end| from_utf8(&[text, &end].concat()).is_ok())
 }
-
-/// Whether each byte begins some well-formed text, found once.
-static BEGINS: LazyLock<[bool; 256]> =
-    LazyLock::new(|| std::array::from_fn(|byte| can_go_on(&[byte as u8])));
 
 /// Where a text breaks, by the definition: the least place such that no
 /// well-formed text begins with the bytes up to it, or else the length.

@@ -8,10 +8,6 @@ use crate::term_sheet::{term_sheet, ALWAYS};
 use reference::cipher::phi_of_key;
 use reference::modes::cmac_steps;
 use reference::{vectors, Pointed};
-use std::sync::LazyLock;
-
-/// What takes longest to make, made once for all tests.
-pub static FAULTS: LazyLock<String> = LazyLock::new(vectors::faults);
 
 fn lines(text: &str) -> Vec<Vec<&str>> {
     assert!(text.ends_with('\n'));
@@ -522,7 +518,8 @@ fn slot_read(edition: Edition, byte: usize) -> usize {
 
 #[test]
 fn faults() {
-    let mut rest = &lines(&FAULTS)[..];
+    let text = vectors::faults();
+    let mut rest = &lines(&text)[..];
     for (edition, t) in faulted_sheets() {
         let keys = keys_of(t);
         let sheet = faulted_sheet(&keys, edition, t);
