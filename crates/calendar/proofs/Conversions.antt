@@ -1,5 +1,6 @@
 -- The two conversions by their definitions, accepted and refused.
 use Prim.Native.Nat.{ℕ, ◌≤◌, ◌<◌}
+use Rattle.std.specs.Prelude.{None}
 use mathlib.Core.Path.{◌≡◌, sym, ap, ◌∙◌}
 use borrow.Author.Tests.{le-leb, lt-leb}
 use Rattle.octets.proofs.Bool.{if_true, if_false}
@@ -7,8 +8,6 @@ use Rattle.octets.proofs.Clauses.{Reflects, reflects_and, reflects_yes, reflects
 use Rattle.calendar.specs.Calendar.{month_days, day_number, date_of, is_date, day_of_date, date_of_day}
 use Rattle.calendar.specs.Answers.{day_outcome, date_outcome}
 use Rattle.calendar.specs.Laws.{IsDate}
-use Rattle.calendar.specs.declared.DayAnswer.TheVariants.{NoSuchDate}
-use Rattle.calendar.specs.declared.DateAnswer.TheVariants.{NoSuchDate as NoSuchDay}
 use Rattle.calendar.proofs.Count.{Real, date_of_number}
 
 -- ---- from a date
@@ -33,7 +32,7 @@ module _ (y m d : ℕ) where
   unfolding day_of_date
   day_of_date_lem h = if_true _ _ _ (reflects_yes reflects_date h)
 
-  pub refused_date : (IsDate y m d → ⊥) → day_outcome NoSuchDate ≡ day_of_date y m d
+  pub refused_date : (IsDate y m d → ⊥) → day_outcome None ≡ day_of_date y m d
   unfolding day_outcome day_of_date
   refused_date h = sym (if_false _ _ _ (reflects_no reflects_date h))
 
@@ -44,7 +43,7 @@ module _ (n : ℕ) where
   unfolding date_of_day
   date_of_day_lem h = if_true _ _ _ (le-leb n 36524 h)
 
-  pub refused_day : 36524 < n → date_outcome NoSuchDay ≡ date_of_day n
+  pub refused_day : 36524 < n → date_outcome None ≡ date_of_day n
   unfolding date_outcome date_of_day
   refused_day h = sym (if_false _ _ _ (lt-leb n 36524 h))
 

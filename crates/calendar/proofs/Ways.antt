@@ -1,10 +1,11 @@
 -- Laws of the code, one for each way out of a function and for each bound that it asks.
+use Rattle.std.specs.Prelude.{Some, None}
 use Prim.Native.Nat.{ℕ, zero, suc, ◌+◌, ◌*◌, ◌-◌, ◌/◌, ◌%◌, ◌≤◌, ◌<◌}
 use mathlib.Core.Path.{◌≡◌, refl, sym, ap, ◌∙◌, subst}
 use mathlib.Core.Bool.{Bool, true, false, ◌||◌}
 use native.Mathlib.Omega.{arith}
 use lib.Dec.{T, eqb, leb, eqb→eq}
-use borrow.Author.Tests.{eqb-true, eqb-false, le-leb, lt-leb, ne_eqb}
+use borrow.Author.Tests.{eqb-true, eqb-false, le-leb, ne_eqb}
 use mir.Syntax.{w8, w16, w64}
 use mir.Val.{Fits}
 use Rattle.octets.specs.Bytes.{if◌then◌otherwise◌}
@@ -12,8 +13,6 @@ use Rattle.calendar.specs.Calendar.{leap, month_days, days_before_year, days_bef
 use Rattle.calendar.specs.Answers.{day_outcome, date_outcome}
 use Rattle.calendar.specs.Steps.{InRange, lacks, lacking, long_start, long_day, Holds}
 use Rattle.calendar.specs.Laws.{IsDate}
-use Rattle.calendar.specs.declared.DayAnswer.TheVariants.{Day, NoSuchDate}
-use Rattle.calendar.specs.declared.DateAnswer.TheVariants.{Date}
 use Rattle.calendar.proofs.Months.{months_pass, month_step, month_full, month_short}
 use Rattle.calendar.proofs.Years.{leap_four, year_sum, year_and_rest, rest_in_year}
 use Rattle.calendar.proofs.Count.{number_to_last}
@@ -53,37 +52,6 @@ module _ (y m d : ℕ) where
 
   pub in_every : 1 ≤ m → m ≤ 12 → d ≤ 28 → true ≡ leb d (month_days y m)
   in_every h g l = sym (le-leb d (month_days y m) (omega (arith, month_full y m h g)))
-
--- ---- a date of the calendar
-
-module _ (y m d : ℕ) where
-  pub low_year : y < 2000 → false ≡ is_date y m d
-  unfolding is_date
-  low_year h = rw (lt-leb 2000 y h)
-
-  module _ (y₀ : 2000 ≤ y) where
-    pub high_year : 2099 < y → false ≡ is_date y m d
-    unfolding is_date
-    high_year h = rw (le-leb 2000 y y₀, lt-leb y 2099 h)
-
-    module _ (y₁ : y ≤ 2099) where
-      pub low_month : m < 1 → false ≡ is_date y m d
-      unfolding is_date
-      low_month h = rw (le-leb 2000 y y₀, le-leb y 2099 y₁, lt-leb 1 m h)
-
-      module _ (m₀ : 1 ≤ m) where
-        pub high_month : 12 < m → false ≡ is_date y m d
-        unfolding is_date
-        high_month h = rw (le-leb 2000 y y₀, le-leb y 2099 y₁, le-leb 1 m m₀, lt-leb m 12 h)
-
-        module _ (m₁ : m ≤ 12) where
-          pub low_day : d < 1 → false ≡ is_date y m d
-          unfolding is_date
-          low_day h = rw (le-leb 2000 y y₀, le-leb y 2099 y₁, le-leb 1 m m₀, le-leb m 12 m₁, lt-leb 1 d h)
-
-          pub high_day : 1 ≤ d → (r : Bool) → r ≡ leb d (month_days y m) → r ≡ is_date y m d
-          unfolding is_date
-          high_day h r e = rw (le-leb 2000 y y₀, le-leb y 2099 y₁, le-leb 1 m m₀, le-leb m 12 m₁, le-leb 1 d h) e
 
 -- ---- the number of a date
 
@@ -127,7 +95,7 @@ module _ (y m d a s : ℕ) (i : IsDate y m d) (e : a + lacking y m ≡ days_befo
   number_is = omega (arith, number_and_three)
 
 module _ (y m d : ℕ) (r : Bool) (e : r ≡ is_date y m d) where
-  pub refused : r ≡ false → day_outcome NoSuchDate ≡ day_of_date y m d
+  pub refused : r ≡ false → day_outcome None ≡ day_of_date y m d
   refused f = refused_date y m d ((reflects_date y m d).fails (sym e ∙ f))
 
   module _ (f : r ≡ true) where
@@ -138,7 +106,7 @@ module _ (y m d : ℕ) (r : Bool) (e : r ≡ is_date y m d) where
       pub number_fits : Fits w16 n
       number_fits = omega (arith, number_to_last (record { year = y; month = m; day = d }) (real y m d tested) tested.year_to_2099)
 
-      pub accepted_date : day_outcome (Day n) ≡ day_of_date y m d
+      pub accepted_date : day_outcome (Some n) ≡ day_of_date y m d
       unfolding day_outcome
       accepted_date = rw g (sym (day_of_date_lem y m d tested))
 
@@ -182,6 +150,6 @@ module _ (n u : ℕ) (h : n ≤ 36524) (e : u ≡ long_day (2000 + 4 * n / 1461)
     unfolding day_number
     found_number = omega (arith, place.0, year_and_rest n h)
 
-    pub accepted_day : date_outcome (Date y m (u - s + 1)) ≡ date_of_day n
+    pub accepted_day : date_outcome (Some (record { year = y; month = m; day = u - s + 1 })) ≡ date_of_day n
     unfolding date_outcome
     accepted_day = sym (date_of_its_number n y m (u - s + 1) h found_date found_number)

@@ -1,6 +1,7 @@
 -- The calendar: day 0 is 2000-01-01 of the Gregorian calendar, and the last day is 36524, 2099-12-31.
 use Rattle.std.specs.Prelude.{ℕ, zero, suc, ◌+◌, ◌-◌, ◌%◌, Bool, not, ◌&&◌, ◌||◌, eqb, leb, ltb}
 use Rattle.octets.specs.Bytes.{if◌then◌otherwise◌}
+pub use Rattle.calendar.specs.declared.Date.{Date}
 
 -- ---- years and months
 
@@ -53,11 +54,6 @@ unfoldable pub day_number : ℕ → ℕ → ℕ → ℕ
 day_number y m d = days_before_year y + days_before_month y m + (d - 1)
 
 -- ---- the date of a number, by counting up
-
-pub record Date : Type 0 where
-  pub year : ℕ
-  pub month : ℕ
-  pub day : ℕ
 
 unfoldable pub first_date : Date
 first_date = record { year = 2000; month = 1; day = 1 }

@@ -1,10 +1,8 @@
 -- What holds of the calendar and of its two conversions.
-use Rattle.std.specs.Prelude.{ℕ, ◌+◌, ◌%◌, ◌≤◌, ◌<◌, ◌≡◌, true, false, List, [], ◌∷◌, map, ◌↔◌, ◌⊎◌}
+use Rattle.std.specs.Prelude.{ℕ, ◌+◌, ◌%◌, ◌≤◌, ◌<◌, ◌≡◌, true, false, List, [], ◌∷◌, map, ◌↔◌, ◌⊎◌, Some, None}
 use Rattle.octets.specs.Clauses.{◌when◌, Exactly}
 use Rattle.calendar.specs.Calendar.{leap, month_days, Date, DateOutcome, day_of_date, date_of_day}
 use Rattle.calendar.specs.Answers.{day_outcome, date_outcome}
-use Rattle.calendar.specs.declared.DayAnswer.{DayAnswer}
-use Rattle.calendar.specs.declared.DateAnswer.{DateAnswer}
 
 -- a leap year: 4 divides it, and 100 does not or 400 does
 pub record IsLeap (y : ℕ) : Type 0 where
@@ -64,11 +62,11 @@ pub record CalendarWords : Type 0 where
 
 pub record CalendarLaws : Type 0 where
   pub words : CalendarWords
-  -- what the answers carry: the values of a variant in the order in which the source names them, `Day(day)` and `Date { year, month, day }`
-  pub carries_day : (n : ℕ) → day_outcome (DayAnswer.Day n) ≡ record { number = 0; day = n }
-  pub carries_no_day : day_outcome DayAnswer.NoSuchDate ≡ record { number = 11; day = 0 }
-  pub carries_date : (y m d : ℕ) → date_outcome (DateAnswer.Date y m d) ≡ record { number = 0; year = y; month = m; day = d }
-  pub carries_no_date : date_outcome DateAnswer.NoSuchDate ≡ record { number = 11; year = 0; month = 0; day = 0 }
+  -- what the answers carry: a day, or a date's year, month and day
+  pub carries_day : (n : ℕ) → day_outcome (Some n) ≡ record { number = 0; day = n }
+  pub carries_no_day : day_outcome None ≡ record { number = 11; day = 0 }
+  pub carries_date : (y m d : ℕ) → date_outcome (Some (record { year = y; month = m; day = d })) ≡ record { number = 0; year = y; month = m; day = d }
+  pub carries_no_date : date_outcome None ≡ record { number = 11; year = 0; month = 0; day = 0 }
   -- the leap rule whole: the years of the calendar have no century but 2000
   pub leap_rule : (y : ℕ) → (leap y ≡ true) ↔ IsLeap y
   pub leap_1900 : leap 1900 ≡ false

@@ -7,16 +7,11 @@ ghost use Rattle.calendar.specs.Answers.{day_outcome, date_outcome};
 ghost use Rattle.calendar.specs.Laws.{IsDate};
 ghost use Rattle.calendar.specs.Steps.{InRange, lacking, long_start, long_day, Holds};
 
-#[derive(Clone, Copy)]
-pub enum DayAnswer {
-    Day(u16),
-    NoSuchDate,
-}
-
-#[derive(Clone, Copy)]
-pub enum DateAnswer {
-    Date { year: u16, month: u8, day: u8 },
-    NoSuchDate,
+#[derive(Clone, Copy, Debug, PartialEq, Eq, PartialOrd, Ord)]
+pub struct Date {
+    pub year: u16,
+    pub month: u8,
+    pub day: u8,
 }
 
 const LAST: usize = 36524;
@@ -44,25 +39,14 @@ fn month_has(year: usize, month: usize, day: usize) -> bool
     if is_leap(year) { day <= 29 } else { day <= 28 }
 }
 
+#[tactic(auto, using(std::proofs::lemmas::Bool::Decides::nat_tests), unfolding(crate::specs::Calendar::is_date))]
 fn is_date(year: usize, month: usize, day: usize) -> bool
     ensures { result ≡ is_date year month day }
 {
-    if year < 2000 {
-        return false;
+    match (year, month) {
+        (2000..=2099, 1..=12) => 1 <= day && month_has(year, month, day),
+        _ => false,
     }
-    if 2099 < year {
-        return false;
-    }
-    if month < 1 {
-        return false;
-    }
-    if 12 < month {
-        return false;
-    }
-    if day < 1 {
-        return false;
-    }
-    month_has(year, month, day)
 }
 
 // The months of a long year, whose February has 30 days, start along a line, which needs neither a table nor a jump.
@@ -81,9 +65,10 @@ fn years_before(year: usize, month: usize) -> usize
 {
     let quarters = 1461 * (year - 2000);
     if month <= 2 {
-        return (quarters + 11) / 4;
+        (quarters + 11) / 4
+    } else {
+        (quarters + 4) / 4
     }
-    (quarters + 4) / 4
 }
 
 fn day_number(year: usize, month: usize, day: usize) -> usize
@@ -93,13 +78,14 @@ fn day_number(year: usize, month: usize, day: usize) -> usize
     years_before(year, month) + long_start(month) + day - 3
 }
 
-pub fn day_of_date(year: usize, month: usize, day: usize) -> DayAnswer
+// The number of a date, where there is such a date.
+pub fn day_of_date(year: usize, month: usize, day: usize) -> Option<u16>
     ensures { day_outcome result ≡ day_of_date year month day }
 {
     if !is_date(year, month, day) {
-        return DayAnswer::NoSuchDate;
+        return None;
     }
-    DayAnswer::Day(day_number(year, month, day) as u16)
+    Some(day_number(year, month, day) as u16)
 }
 
 // Where a long year has day t of a year. Both count from 0.
@@ -108,12 +94,12 @@ fn long_day(year: usize, t: usize) -> usize
     ensures { result ≡ long_day year t }
 {
     if is_leap(year) {
-        if t < 60 {
-            return t;
-        }
-        return t + 1;
+        if t < 60 { t } else { t + 1 }
+    } else if t < 59 {
+        t
+    } else {
+        t + 2
     }
-    if t < 59 { t } else { t + 2 }
 }
 
 // The month that holds day u of a long year: the way back is a line too, so that no month is tried.
@@ -124,19 +110,19 @@ fn long_month(u: usize) -> usize
     (67 * u + 2075) / 2048
 }
 
-// Four years have 1461 days, and the first of them one more than the others.
-pub fn date_of_day(day: usize) -> DateAnswer
+// The date of a day up to the last. Four years have 1461 days, and the first of them one more than the others.
+pub fn date_of_day(day: usize) -> Option<Date>
     ensures { date_outcome result ≡ date_of_day day }
 {
     if LAST < day {
-        return DateAnswer::NoSuchDate;
+        return None;
     }
     let year = 2000 + 4 * day / 1461;
     let u = long_day(year, 4 * day % 1461 / 4);
     let month = long_month(u);
-    DateAnswer::Date {
+    Some(Date {
         year: year as u16,
         month: month as u8,
         day: (u - long_start(month) + 1) as u8,
-    }
+    })
 }

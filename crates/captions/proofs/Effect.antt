@@ -8,6 +8,7 @@ use mathlib.Core.List.{List}
 use native.Mathlib.Nat.{le_refl}
 use native.Mathlib.Omega.{arith}
 use lib.ListN.{length}
+use Rattle.std.specs.Prelude.{Ok}
 use borrow.Author.Tests.{lt-leb, eq-eqb}
 use Rattle.octets.specs.Bytes.{Bytes, zeros, same}
 use Rattle.octets.specs.Outcome.{decided}
@@ -22,8 +23,7 @@ use Rattle.captions.specs.Captions.{Keys, Ciphers, mark_for, other_keys, padded,
 use Rattle.captions.specs.Calls.{key_tests, other_class, class_tests, pair_tests, sheet_tests, window_tests, open_tests, read_tests, reading_with}
 use Rattle.captions.specs.Model.{Page, blank, holds}
 use Rattle.captions.specs.Claim.{SameHeader, Regular, Sound, Fits, shown}
-use Rattle.captions.specs.declared.Verdict.TheVariants.{Pass, Refuse}
-use Rattle.captions.proofs.Tables.{Unmet, end, next, unmet_append, unmet_left, unmet_right, unmet_first, answers_all, decided_past, decided_past_both, decided_accepted}
+use Rattle.captions.proofs.Tables.{Unmet, end, next, unmet_append, unmet_left, unmet_right, unmet_first, decided_past, decided_past_both, passed_unmet}
 use Rattle.captions.proofs.Store.{Stored, key_class_kept, slots_kept, store_slot_lem, store_last_lem, store_slot_bytes, store_last_bytes}
 use Rattle.captions.proofs.Fitted.{slot_fits, stored_rules}
 use Rattle.captions.proofs.Slot.{zeros_blank, zeros_fit, padded_rest, sealed_blocks, opened_sealed, slot_mark_block, slot_mark_number, slot_mark_length, slot_mark_check, slot_mark_fits, slot_mark_not_blank}
@@ -38,11 +38,10 @@ pub record Effect (e : Edition) (x : Ciphers) (k : Keys) (j w : ℕ) (p : Page) 
 
 -- ---- a fit sheet that the pair serves
 
-module _ (e : Edition) (x : Ciphers) (k : Keys) (s : List ℕ) (passes : first_of (pair_tests e x k s) ≡ Pass) where
+module _ (e : Edition) (x : Ciphers) (k : Keys) (s : List ℕ) (passes : first_of (pair_tests e x k s) ≡ Ok tt) where
   pair_passed : Unmet (pair_tests e x k s)
   unfolding first_of
-  pair_passed =
-      decided_accepted (pair_tests e x k s) Pass Refuse Pass (answers_all (λ a q. let z : ◌≡◌ {A = ℕ} 0 1 = cc in omega arith) (pair_tests e x k s)) passes
+  pair_passed = passed_unmet (pair_tests e x k s) passes
 
   pub keys_passed : Unmet (key_tests k)
   unfolding pair_tests

@@ -1,10 +1,9 @@
 -- An accepted read of any sheet: the slot's bytes are those that a write of its number, slot and caption stores.
-use Prim.Native.Nat.{ℕ, ◌-◌, ◌≤◌, ◌<◌}
+use Prim.Native.Nat.{ℕ, ◌-◌, ◌<◌}
 use mathlib.Core.Path.{◌≡◌, refl, sym, ap, ◌∙◌}
 use mathlib.Core.Bool.{Bool, true, false, not, ◌||◌}
 use mathlib.Core.List.{List, ◌++◌}
 use native.Mathlib.Omega.{arith}
-use lib.Dec.{lit≤}
 use lib.ListN.{length, take, drop, length-drop, take-append-drop}
 use lib.Seq.{length-take-le}
 use borrow.Author.Tests.{leb-false, not-false}
@@ -16,15 +15,11 @@ use Rattle.octets.proofs.Parts.{length_part, part_all, part_add}
 use Rattle.octets.proofs.Zeros.{all_zero_is}
 use Rattle.modes.specs.Laws.{ByteBlocks}
 use Rattle.layout.specs.Layout.{Edition, slots, last_write, mark_number, mark_length, mark_check, mark_at, field_at, mark, field, blank_slot, fit_in}
-use Rattle.faults.specs.Faults.{first_fault}
-use Rattle.captions.specs.Answers.{Outcome, answer_number, outcome}
-use Rattle.captions.specs.Captions.{Keys, Ciphers, padded, new_mark, start_block, sealed_field, opened_field, check_of, slot_mark, opened, altered, change}
+use Rattle.captions.specs.Captions.{Keys, Ciphers, padded, new_mark, start_block, sealed_field, opened_field, check_of, slot_mark, opened, altered}
 use Rattle.captions.specs.Calls.{key_tests, other_class, class_tests, sheet_tests, window_tests, open_tests, read_tests, reading_with}
 use Rattle.captions.specs.Claim.{Sound}
-use Rattle.captions.specs.declared.Answer.{Answer}
-use Rattle.captions.specs.declared.Answer.TheVariants.{Accepted, WrongKey, TwinKeys, WrongSpan, UnfitSheet, OtherKeyClass, NoSuchSlot, Blank, Altered, OtherKeys}
-use Rattle.captions.proofs.Tables.{Unmet, end, next, decided_accepted}
-use Rattle.captions.proofs.Accepted.{zero_read}
+use Rattle.captions.proofs.Tables.{Unmet, end, next}
+use Rattle.captions.proofs.Accepted.{accepted_unmet}
 use Rattle.layout.proofs.Fits.{Rules, fit_rules, length_mark, length_field, Written, mark_written, not_blank_written}
 use Rattle.captions.proofs.Slot.{start_block_lem, chaining, be_part}
 
@@ -42,33 +37,13 @@ or_false_left true b h = h
 or_false_left false b h = refl
 
 pub or_false_right : (a b : Bool) → a || b ≡ false → b ≡ false
-or_false_right true b h = absurd (let z : ◌≡◌ {A = ℕ} 0 1 = cc in omega arith)
+or_false_right true b h = absurd (cc)
 or_false_right false b h = h
 
-pub refusal : (a : Answer) (n : ℕ) (u v : List ℕ) → 1 ≤ answer_number a → outcome a u ≡ outcome (Accepted n) v → ⊥
-unfolding outcome answer_number
-refusal a n u v h q = omega (arith, ap (λ (o : Outcome). o.number) q)
-
 pub accepted_read : (e : Edition) (x : Ciphers) (k : Keys) (s : List ℕ) (i : ℕ) (window : List ℕ) → (reading_with e x k s i window).number ≡ 0 → Read e x k s i
-unfolding reading_with read_tests open_tests window_tests key_tests sheet_tests class_tests answer_number
-accepted_read e x k s i window h = go unmet
+unfolding reading_with read_tests open_tests window_tests key_tests sheet_tests class_tests
+accepted_read e x k s i window h = go (accepted_unmet _ _ _ (read_tests e x k s i window) h)
   where
-    n : ℕ
-    n = mark_length (mark e s i)
-
-    v : List ℕ
-    v = opened x e s i
-
-    no : (a : Answer) → 1 ≤ answer_number a → outcome a (zeros (length window)) ≡ outcome (Accepted n) v → ⊥
-    no a = refusal a n (zeros (length window)) v
-
-    unmet : Unmet (read_tests e x k s i window)
-    unmet =
-        decided_accepted (read_tests e x k s i window) (outcome (Accepted n) v) (λ a. outcome a (zeros (length window))) (outcome (Accepted n) v)
-        (next (no WrongKey (lit≤ tt)) (next (no TwinKeys (lit≤ tt)) (next (no WrongSpan (lit≤ tt)) (next (no (UnfitSheet (first_fault s)) (lit≤ tt)) (next (no OtherKeyClass (lit≤ tt))
-        (next (no OtherKeys (lit≤ tt)) (next (no NoSuchSlot (lit≤ tt)) (next (no Blank (lit≤ tt)) (next (no (Altered i (change x e s i)) (lit≤ tt)) end)))))))))
-        (zero_read e x k s i window h)
-
     go : Unmet (read_tests e x k s i window) → Read e x k s i
     go (next t₁ (next t₂ (next t₃ (next t₄ (next t₅ (next t₁₄ (next t₆ (next t₉ (next t₁₀ end))))))))) =
         record {

@@ -8,6 +8,7 @@ use native.Mathlib.Omega.{arith}
 use lib.Dec.{eqb}
 use lib.ListN.{length, get_or, drop, replicate}
 use lib.Seq.{get_or-drop}
+use Rattle.std.specs.Prelude.{Ok, Err}
 use borrow.Author.Tests.{eq-eqb, ne_eqb, leb-false, not-true, not-false}
 use Rattle.octets.specs.Bytes.{if◌then◌otherwise◌, number, zeros, all_zero, same, all_below, be}
 use Rattle.octets.specs.Outcome.{decided}
@@ -23,13 +24,12 @@ use Rattle.layout.specs.Rules.{Classes, KeyFits, MeetsLayout}
 use Rattle.layout.proofs.Header.{edition_cases}
 use Rattle.layout.proofs.Fits.{fit_rules}
 use Rattle.layout.proofs.Meaning.{reflects_fit, reflects_blank, reflects_classes, reflects_fits}
-use Rattle.captions.specs.Answers.{Outcome, answer_number, answer_length, outcome}
+use Rattle.captions.specs.Answers.{Answer, Outcome, refusal_number, answer_number, answer_length, outcome}
 use Rattle.captions.specs.Captions.{Keys, pair, Ciphers, loaded_for, mark_for, key_mark, other_keys, check_of, opened, altered}
 use Rattle.captions.specs.Calls.{wrong_keys, other_class, key_tests, caption_tests, class_tests, sheet_tests, window_tests, open_tests, write_tests, clear_tests, read_tests, blank_tests, writing_with, clearing_with, reading_with, blanking_with, writing, clearing, reading, blanking}
 use Rattle.captions.specs.Refusals.{RightKeys, RightClass, OtherMark, IsAltered, check_differs, byte_left, write_clauses, clear_clauses, read_clauses, blank_clauses, Leaves, WriteOf, ClearOf, ReadOf, BlankOf, SheetRefusals}
 use Rattle.captions.proofs.Accepted.{zero_read, zero_write, zero_clear, zero_blank}
-use Rattle.captions.specs.declared.Answer.{Answer}
-use Rattle.captions.specs.declared.Answer.TheVariants.{Accepted, WrongKey, TwinKeys, WrongSpan, UnfitSheet, OtherKeyClass, NoSuchSlot, Overlong, Worn, Blank, Altered, OtherKeys, BrokenText}
+use Rattle.captions.specs.declared.Refusal.{Refusal}
 
 -- ---- the keys
 
@@ -109,8 +109,8 @@ reflects_altered x e s i = reflects_as into from (reflects_or (reflects_not (ref
 
 -- ---- the tables mean the clauses
 
-write_means : (k : Keys) (s : List ℕ) (i : ℕ) (c : List ℕ) → Means answer_number (write_tests (edition_of s) (loaded_for (key_class s) k) k s i c) (write_clauses k s i c)
-unfolding Means write_tests key_tests sheet_tests class_tests caption_tests write_clauses answer_number
+write_means : (k : Keys) (s : List ℕ) (i : ℕ) (c : List ℕ) → Means refusal_number (write_tests (edition_of s) (loaded_for (key_class s) k) k s i c) (write_clauses k s i c)
+unfolding Means write_tests key_tests sheet_tests class_tests caption_tests write_clauses
 write_means k s i c = (
   reflects_keys k,
   refl,
@@ -142,12 +142,12 @@ write_means k s i c = (
   ),
 )
 
-clear_means : (s : List ℕ) (i : ℕ) → Means answer_number (clear_tests (edition_of s) s i) (clear_clauses s i)
-unfolding Means clear_tests clear_clauses answer_number
+clear_means : (s : List ℕ) (i : ℕ) → Means refusal_number (clear_tests (edition_of s) s i) (clear_clauses s i)
+unfolding Means clear_tests clear_clauses
 clear_means s i = (reflects_unfit s, refl, λ t₄. (reflects_leb (slots s) i, refl, λ t₆. tt))
 
-read_means : (k : Keys) (s : List ℕ) (i : ℕ) (window : List ℕ) → Means answer_number (read_tests (edition_of s) (loaded_for (key_class s) k) k s i window) (read_clauses k s i window)
-unfolding Means read_tests open_tests window_tests key_tests sheet_tests class_tests read_clauses answer_number
+read_means : (k : Keys) (s : List ℕ) (i : ℕ) (window : List ℕ) → Means refusal_number (read_tests (edition_of s) (loaded_for (key_class s) k) k s i window) (read_clauses k s i window)
+unfolding Means read_tests open_tests window_tests key_tests sheet_tests class_tests read_clauses
 read_means k s i window = (
   reflects_keys k,
   refl,
@@ -192,8 +192,8 @@ reflects_keys_class k t = go (wrong_keys k) (not (class_known t)) (reflects_keys
     go false true p q = record { holds = λ e r. q.holds refl r.1; fails = λ e. absurd (false≢true (sym e)) }
     go false false p q = record { holds = λ e. absurd (false≢true e); fails = λ e h. p.fails refl (λ r. q.fails refl (λ w. h (r, w))) }
 
-blank_means : (k : Keys) (s : List ℕ) (n t : ℕ) → Means answer_number (blank_tests k s n t) (blank_clauses k s n t)
-unfolding Means blank_tests blank_clauses answer_number slot_count sheet_size
+blank_means : (k : Keys) (s : List ℕ) (n t : ℕ) → Means refusal_number (blank_tests k s n t) (blank_clauses k s n t)
+unfolding Means blank_tests blank_clauses slot_count sheet_size
 blank_means k s n t = (
   reflects_keys_class k t,
   refl,
@@ -214,60 +214,53 @@ blank_means k s n t = (
 
 refusal_length : (a : Answer) → (answer_number a ≡ 0 → ⊥) → answer_length a ≡ 0
 unfolding answer_number answer_length
-refusal_length (Accepted n) h = absurd (h refl)
-refusal_length WrongKey h = refl
-refusal_length TwinKeys h = refl
-refusal_length WrongSpan h = refl
-refusal_length (UnfitSheet f) h = refl
-refusal_length OtherKeyClass h = refl
-refusal_length NoSuchSlot h = refl
-refusal_length Overlong h = refl
-refusal_length Worn h = refl
-refusal_length Blank h = refl
-refusal_length (Altered i c) h = refl
-refusal_length OtherKeys h = refl
-refusal_length BrokenText h = refl
+refusal_length (Ok n) h = absurd (h refl)
+refusal_length (Err r) h = refl
 
 pub leaves : (a : Answer) (bytes : List ℕ) → (answer_number a ≡ 0 → ⊥) → Leaves (outcome a bytes) bytes
 unfolding outcome
 leaves a bytes h = record { len = refusal_length a h; bytes_are = refl }
 
+pub refusal_leaves : (r : Refusal) (bytes : List ℕ) → Leaves (outcome (Err r) bytes) bytes
+unfolding outcome answer_length
+refusal_leaves r bytes = record { len = refl; bytes_are = refl }
+
 module _ (k : Keys) (s : List ℕ) (i : ℕ) where
   module _ (c : List ℕ) where
     write_exactly : Exactly (writing k s i c).number (write_clauses k s i c)
     unfolding writing writing_with outcome answer_number
-    write_exactly = decided_exactly answer_number (λ (o : Outcome). o.number) _ _ refl (λ a. refl) _ _ (write_means k s i c)
+    write_exactly = decided_exactly refusal_number (λ (o : Outcome). o.number) _ _ refl (λ a. refl) _ _ (write_means k s i c)
 
     write_refused : ((writing k s i c).number ≡ 0 → ⊥) → Leaves (writing k s i c) s
     unfolding writing writing_with outcome answer_number
-    write_refused = decided_refused answer_number (λ (o : Outcome). o.number) _ _ refl (λ a. refl) (λ o. Leaves o s) (λ a. leaves a s) _
+    write_refused = decided_refused refusal_number (λ (o : Outcome). o.number) _ _ refl (λ a. refl) (λ o. Leaves o s) (λ r h. refusal_leaves r s) _
 
   module _ (window : List ℕ) where
     read_exactly : Exactly (reading k s i window).number (read_clauses k s i window)
     unfolding reading reading_with outcome answer_number
-    read_exactly = decided_exactly answer_number (λ (o : Outcome). o.number) _ _ refl (λ a. refl) _ _ (read_means k s i window)
+    read_exactly = decided_exactly refusal_number (λ (o : Outcome). o.number) _ _ refl (λ a. refl) _ _ (read_means k s i window)
 
     read_refused : ((reading k s i window).number ≡ 0 → ⊥) → Leaves (reading k s i window) (zeros (length window))
     unfolding reading reading_with outcome answer_number
-    read_refused = decided_refused answer_number (λ (o : Outcome). o.number) _ _ refl (λ a. refl) (λ o. Leaves o (zeros (length window))) (λ a. leaves a (zeros (length window))) _
+    read_refused = decided_refused refusal_number (λ (o : Outcome). o.number) _ _ refl (λ a. refl) (λ o. Leaves o (zeros (length window))) (λ r h. refusal_leaves r (zeros (length window))) _
 
 module _ (s : List ℕ) (i : ℕ) where
   clear_exactly : Exactly (clearing s i).number (clear_clauses s i)
   unfolding clearing clearing_with outcome answer_number
-  clear_exactly = decided_exactly answer_number (λ (o : Outcome). o.number) _ _ refl (λ a. refl) _ _ (clear_means s i)
+  clear_exactly = decided_exactly refusal_number (λ (o : Outcome). o.number) _ _ refl (λ a. refl) _ _ (clear_means s i)
 
   clear_refused : ((clearing s i).number ≡ 0 → ⊥) → Leaves (clearing s i) s
   unfolding clearing clearing_with outcome answer_number
-  clear_refused = decided_refused answer_number (λ (o : Outcome). o.number) _ _ refl (λ a. refl) (λ o. Leaves o s) (λ a. leaves a s) _
+  clear_refused = decided_refused refusal_number (λ (o : Outcome). o.number) _ _ refl (λ a. refl) (λ o. Leaves o s) (λ r h. refusal_leaves r s) _
 
 module _ (k : Keys) (s : List ℕ) (n t v : ℕ) where
   blank_exactly : Exactly (blanking k s n t v).number (blank_clauses k s n t)
   unfolding blanking blanking_with outcome answer_number
-  blank_exactly = decided_exactly answer_number (λ (o : Outcome). o.number) _ _ refl (λ a. refl) _ _ (blank_means k s n t)
+  blank_exactly = decided_exactly refusal_number (λ (o : Outcome). o.number) _ _ refl (λ a. refl) _ _ (blank_means k s n t)
 
   blank_refused : ((blanking k s n t v).number ≡ 0 → ⊥) → Leaves (blanking k s n t v) s
   unfolding blanking blanking_with outcome answer_number
-  blank_refused = decided_refused answer_number (λ (o : Outcome). o.number) _ _ refl (λ a. refl) (λ o. Leaves o s) (λ a. leaves a s) _
+  blank_refused = decided_refused refusal_number (λ (o : Outcome). o.number) _ _ refl (λ a. refl) (λ o. Leaves o s) (λ r h. refusal_leaves r s) _
 
   blank_accepted : (blanking k s n t v).number ≡ 0 → Leaves (blanking k s n t v) (blank_sheet n t v (key_mark (loaded_for t k) n t v))
   unfolding blanking outcome answer_length

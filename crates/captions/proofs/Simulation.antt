@@ -10,20 +10,21 @@ use lib.Arith.{lt_of_le-ne}
 use lib.Dec.{leb, ltb, eqb}
 use lib.ListN.{length, get_or, set, length-set, length-replicate, get_or-replicate}
 use lib.Seq.{get_or-set_same, get_or-set_other}
+use Rattle.std.specs.Prelude.{Ok, Err}
 use borrow.Author.Tests.{leb-false, ltb-false, eqb-false}
 use Rattle.octets.specs.Bytes.{if◌then◌otherwise◌, Bytes, zeros, same}
 use Rattle.octets.specs.Outcome.{decided}
 use Rattle.text.specs.Grammar.{well_formed}
 use Rattle.layout.specs.Layout.{Edition, slots, last_write, fit_in}
-use Rattle.captions.specs.Answers.{Outcome, answer_number, answer_length, outcome}
+use Rattle.captions.specs.Answers.{Outcome, refusal_number, answer_number, answer_length, outcome}
 use Rattle.captions.specs.Captions.{Keys, Ciphers, other_keys, written, cleared}
 use Rattle.captions.specs.Calls.{wrong_keys, other_class, unfit_row, key_tests, class_tests, pair_tests, sheet_tests, window_tests, open_tests, caption_tests, write_tests, read_tests, clear_tests, writing_with, clearing_with, reading_with}
 use Rattle.captions.specs.Runs.{Reply, finally}
 use Rattle.captions.specs.Model.{Call, writes, clears, Page, blank, holds, Model, new_model, page, answered, model_step}
 use Rattle.captions.specs.Turns.{Turn, own, stranger, own_calls, EachStranger, none as no_stranger, past, met, turn_model}
 use Rattle.captions.specs.Claim.{stepped, step_with, Captions, none, write, clear, AskedOfCalls, shown, SameHeader, Regular, Sound, Fits, TurnedDown, SheetsFollowModel}
-use Rattle.captions.specs.declared.Answer.{Answer}
-use Rattle.captions.specs.declared.Answer.TheVariants.{Accepted, WrongKey, TwinKeys, OtherKeyClass, NoSuchSlot, Overlong, Worn, OtherKeys, BrokenText}
+use Rattle.captions.specs.declared.Refusal.{Refusal}
+use Rattle.captions.specs.declared.Refusal.TheVariants.{WrongKey, TwinKeys, OtherKeyClass, NoSuchSlot, Overlong, Worn, OtherKeys, BrokenText}
 use Rattle.captions.proofs.Runs.{Every, done, more, same_replies, related_finally}
 use Rattle.captions.proofs.Tables.{end, next, unmet_append, past_rows, row_beside, rows_end}
 use Rattle.captions.proofs.Store.{header_refl, header_trans, slots_kept}
@@ -59,11 +60,11 @@ every_caption (write b h) = more b (every_caption h)
 every_caption (clear h) = more tt (every_caption h)
 
 module _ (e : Edition) (reg : Regular e) (x : Ciphers) (ok : Sound x) (k : Keys) (s₀ s : List ℕ) (m : Model) (r : Shows e x k s₀ s m) where
-  refused : (a : Answer) (n : ℕ) → answer_number a ≡ n → answer_length a ≡ 0 → Follows e x k s₀ (outcome a s) (answered n, m)
-  unfolding outcome answered
-  refused a n p q = record { reply = λ i. record { number = p i; len = q i }; shows = r }
+  refused : (a : Refusal) (n : ℕ) → refusal_number a ≡ n → Follows e x k s₀ (outcome (Err a) s) (answered n, m)
+  unfolding outcome answered answer_number answer_length
+  refused a n p = record { reply = λ i. record { number = p i; len = 0 }; shows = r }
 
-  accepted : (s' : List ℕ) (m' : Model) → Shows e x k s₀ s' m' → Follows e x k s₀ (outcome (Accepted 0) s') (answered 0, m')
+  accepted : (s' : List ℕ) (m' : Model) → Shows e x k s₀ s' m' → Follows e x k s₀ (outcome (Ok 0) s') (answered 0, m')
   unfolding outcome answered answer_number answer_length
   accepted s' m' h = record { reply = refl; shows = h }
 
@@ -96,7 +97,7 @@ module _ (e : Edition) (reg : Regular e) (x : Ciphers) (ok : Sound x) (k : Keys)
   unfolding clearing_with clear_tests model_step answer_number answer_length
   clear_follows i =
       past_rows (Follows e x k s₀) (unfit_row e s ∷ []) _ _ _ _ (next (ap not r.fits.fits) end)
-      (row_beside (Follows e x k s₀) (leb (slots s) i) (leb (length m.pages) i) NoSuchSlot _ _ _ _ _ (slot_test i) (refused NoSuchSlot 6 refl refl) λ t₆.
+      (row_beside (Follows e x k s₀) (leb (slots s) i) (leb (length m.pages) i) NoSuchSlot _ _ _ _ _ (slot_test i) (refused NoSuchSlot 6 refl) λ t₆.
       let h : i < slots s = omega (arith, leb-false (length m.pages) i t₆, r.pages) in
       rows_end (Follows e x k s₀) _ _ _ (accepted (cleared e s i) _ (effect_shows i m.count blank (cleared e s i) h
       (subst (λ (n : ℕ). Effect e x k i n blank s (cleared e s i)) r.last (clear_effect e reg x k s r.fits i h)))))
@@ -106,10 +107,10 @@ module _ (e : Edition) (reg : Regular e) (x : Ciphers) (ok : Sound x) (k : Keys)
   write_follows i c bc =
       past_rows (Follows e x k s₀) (key_tests k ++ (unfit_row e s ∷ class_tests e x k s)) _ _ _ _
       (unmet_append (keys_passed e x k s r.fits.passes) (next (ap not r.fits.fits) (classes_passed e x k s r.fits.passes)))
-      (row_beside (Follows e x k s₀) (leb (slots s) i) (leb (length m.pages) i) NoSuchSlot _ _ _ _ _ (slot_test i) (refused NoSuchSlot 6 refl refl) λ t₆.
-      row_beside (Follows e x k s₀) (ltb 192 (length c)) (ltb 192 (length c)) Overlong _ _ _ _ _ refl (refused Overlong 7 refl refl) λ t₇.
-      row_beside (Follows e x k s₀) (not (well_formed c)) (not (well_formed c)) BrokenText _ _ _ _ _ refl (refused BrokenText 15 refl refl) λ t₁₅.
-      row_beside (Follows e x k s₀) (eqb (last_write s) 4294967295) (eqb m.count 4294967295) Worn _ _ _ _ _ worn_test (refused Worn 8 refl refl) λ t₈.
+      (row_beside (Follows e x k s₀) (leb (slots s) i) (leb (length m.pages) i) NoSuchSlot _ _ _ _ _ (slot_test i) (refused NoSuchSlot 6 refl) λ t₆.
+      row_beside (Follows e x k s₀) (ltb 192 (length c)) (ltb 192 (length c)) Overlong _ _ _ _ _ refl (refused Overlong 7 refl) λ t₇.
+      row_beside (Follows e x k s₀) (not (well_formed c)) (not (well_formed c)) BrokenText _ _ _ _ _ refl (refused BrokenText 15 refl) λ t₁₅.
+      row_beside (Follows e x k s₀) (eqb (last_write s) 4294967295) (eqb m.count 4294967295) Worn _ _ _ _ _ worn_test (refused Worn 8 refl) λ t₈.
       let h : i < slots s = omega (arith, leb-false (length m.pages) i t₆, r.pages) in
       let left : last_write s < 4294967295 = lt_of_le-ne (last_small e x k s r.fits) (λ q. eqb-false m.count 4294967295 t₈ (sym r.last ∙ q)) in
       rows_end (Follows e x k s₀) _ _ _ (accepted (written x e s i c) _ (effect_shows i (m.count + 1) (holds c) (written x e s i c) h
@@ -209,7 +210,7 @@ sheets_follow_model e x k step number s turns reg ok g unused cap is down =
 
 -- a table that begins with 1, 2, 5 and 14, of which one applies; a refusal leaves b
 first_of_pair : (t₁ t₂ t₅ t₁₄ : Bool) (b : List ℕ) (rest : Outcome) → ◌≢◌ {A = ℕ} (if t₁ then 1 otherwise if t₂ then 2 otherwise if t₅ then 5 otherwise if t₁₄ then 14 otherwise 0) 0
-    → stepped (if t₁ then outcome WrongKey b otherwise if t₂ then outcome TwinKeys b otherwise if t₅ then outcome OtherKeyClass b otherwise if t₁₄ then outcome OtherKeys b otherwise rest)
+    → stepped (if t₁ then outcome (Err WrongKey) b otherwise if t₂ then outcome (Err TwinKeys) b otherwise if t₅ then outcome (Err OtherKeyClass) b otherwise if t₁₄ then outcome (Err OtherKeys) b otherwise rest)
     ≡ (answered (if t₁ then 1 otherwise if t₂ then 2 otherwise if t₅ then 5 otherwise if t₁₄ then 14 otherwise 0), b)
 unfolding outcome answered answer_number answer_length
 first_of_pair true t₂ t₅ t₁₄ b rest n = refl
@@ -219,14 +220,14 @@ first_of_pair false false false true b rest n = refl
 first_of_pair false false false false b rest n = absurd (n refl)
 
 -- keys that meet 1, 2, 5 or 14 with a fit sheet get that number
-module _ (e : Edition) (x : Ciphers) (k : Keys) (s : List ℕ) (i : ℕ) (fits : fit_in e s ≡ true) (meet : decided (pair_tests e x k s) 0 answer_number ≢ 0) where
+module _ (e : Edition) (x : Ciphers) (k : Keys) (s : List ℕ) (i : ℕ) (fits : fit_in e s ≡ true) (meet : decided (pair_tests e x k s) 0 refusal_number ≢ 0) where
   -- a write changes nothing
-  pub turned_down : (c : List ℕ) → stepped (writing_with e x k s i c) ≡ (answered (decided (pair_tests e x k s) 0 answer_number), s)
+  pub turned_down : (c : List ℕ) → stepped (writing_with e x k s i c) ≡ (answered (decided (pair_tests e x k s) 0 refusal_number), s)
   unfolding writing_with write_tests pair_tests key_tests sheet_tests class_tests caption_tests decided answer_number
   turned_down c = rw fits (first_of_pair (wrong_keys k) (same k.sealing k.checking) (other_class k s) (other_keys x e s) s _ meet)
 
   -- a read zeroes its window
-  pub read_down : (window : List ℕ) → length window ≡ 192 → stepped (reading_with e x k s i window) ≡ (answered (decided (pair_tests e x k s) 0 answer_number), zeros 192)
+  pub read_down : (window : List ℕ) → length window ≡ 192 → stepped (reading_with e x k s i window) ≡ (answered (decided (pair_tests e x k s) 0 refusal_number), zeros 192)
   unfolding reading_with read_tests open_tests window_tests pair_tests key_tests sheet_tests class_tests decided answer_number
   read_down window l =
       rw (l, fits) (first_of_pair (wrong_keys k) (same k.sealing k.checking) (other_class k s) (other_keys x e s) (zeros 192) _ meet)

@@ -2,6 +2,7 @@
 use mathlib.Core.Path.{◌≡◌, refl, sym, ◌∙◌}
 use mathlib.Core.Bool.{Bool, true, false, false≢true}
 use mathlib.Core.List.{List, [], ◌∷◌, ◌++◌}
+use Rattle.std.specs.Prelude.{Result, Ok, Err}
 use Rattle.octets.specs.Bytes.{if◌then◌otherwise◌}
 use Rattle.octets.specs.Outcome.{Row, ◌gives◌, decided}
 use Rattle.octets.proofs.Outcome.{decided_append}
@@ -10,11 +11,6 @@ use Rattle.octets.proofs.Outcome.{decided_append}
 pub data Unmet {A : Type 0} : List (Row A) → Type 0 where
   end : Unmet []
   next : {t : Bool} {a : A} {rows : List (Row A)} → t ≡ false → Unmet rows → Unmet ((t gives a) ∷ rows)
-
--- every answer of a table is one of those
-pub data Answers {A : Type 0} (P : A → Type 0) : List (Row A) → Type 0 where
-  end : Answers P []
-  next : {t : Bool} {a : A} {rows : List (Row A)} → P a → Answers P rows → Answers P ((t gives a) ∷ rows)
 
 -- two tables give the same answers in the same order, by tests that agree where no row before applies
 pub data Agree {A : Type 0} : List (Row A) → List (Row A) → Type 0 where
@@ -40,10 +36,6 @@ module _ {A : Type 0} where
   pub unmet_rest : {t : Bool} {a : A} {rows : List (Row A)} → Unmet ((t gives a) ∷ rows) → Unmet rows
   unmet_rest (next e u) = u
 
-  pub answers_all : {P : A → Type 0} → ((a : A) → P a) → (rows : List (Row A)) → Answers P rows
-  answers_all h [] = end
-  answers_all h ((t gives a) ∷ rows) = next (h a) (answers_all h rows)
-
   pub agree_refl : (rows : List (Row A)) → Agree rows rows
   agree_refl [] = end
   agree_refl ((t gives a) ∷ rows) = next refl (λ e. agree_refl rows)
@@ -68,13 +60,6 @@ module _ {A B : Type 0} where
   decided_past_both xs xs' ys ys' x x' f f' u u' h =
       decided_past xs ys x (decided ys' x' f') f u h ∙ sym (decided_past xs' ys' x' (decided ys' x' f') f' u' refl)
 
-  -- a call that comes to what no refusal of its table does met no row
-  pub decided_accepted : (rows : List (Row A)) (x : B) (f : A → B) (y : B) → Answers (λ a. f a ≡ y → ⊥) rows → decided rows x f ≡ y → Unmet rows
-  unfolding decided
-  decided_accepted [] x f y end h = end
-  decided_accepted ((true gives a) ∷ rows) x f y (next n ns) h = absurd (n h)
-  decided_accepted ((false gives a) ∷ rows) x f y (next n ns) h = next refl (decided_accepted rows x f y ns h)
-
   -- what is accepted counts only where no row applies
   pub decided_cong : (rows : List (Row A)) (x y : B) (f : A → B) → (Unmet rows → x ≡ y) → decided rows x f ≡ decided rows y f
   unfolding decided
@@ -94,6 +79,13 @@ module _ {A B : Type 0} where
   decided_agree x y f end h = h end
   decided_agree x y f (next {t = true} {u} {a} {rows} {rows'} e r) h = rw (← e)
   decided_agree x y f (next {t = false} {u} {a} {rows} {rows'} e r) h = rw (← e) (decided_agree x y f (r refl) (λ v. h (next refl v)))
+
+-- a table that comes to no refusal by itself met no row
+pub passed_unmet : {A : Type 0} (rows : List (Row A)) → ◌≡◌ {A = Result (Unit {0}) A} (decided rows (Ok tt) Err) (Ok tt) → Unmet rows
+unfolding decided
+passed_unmet [] h = end
+passed_unmet ((true gives a) ∷ rows) h = absurd (cc)
+passed_unmet ((false gives a) ∷ rows) h = next refl (passed_unmet rows h)
 
 -- a function after a table
 pub decided_map : {A B C : Type 0} (g : B → C) (rows : List (Row A)) (x : B) (f : A → B)

@@ -5,7 +5,6 @@ use mathlib.Core.Logic.{◌≢◌, ◌⊎◌, inl, inr}
 use mathlib.Core.Bool.{true, false}
 use mathlib.Core.List.{List}
 use native.Mathlib.Omega.{arith}
-use lib.Dec.{lit≤}
 use lib.ListN.{length, get_or}
 use borrow.Author.Tests.{eqb-false, leb-false, ltb-false, not-false}
 use Rattle.octets.specs.Bytes.{Bytes, be, zeros, part, put}
@@ -15,18 +14,13 @@ use Rattle.octets.proofs.Zeros.{length_zeros}
 use Rattle.modes.specs.Laws.{ByteBlocks}
 use Rattle.layout.specs.Layout.{Edition, slots, last_write, mark_at, field_at, mark, field, fit_in, store_slot, store_last}
 use Rattle.layout.proofs.Fits.{Rules, fit_rules, mark_end, field_end}
-use Rattle.faults.specs.Faults.{first_fault}
-use Rattle.captions.specs.Answers.{answer_number, outcome}
 use Rattle.captions.specs.Captions.{Keys, Ciphers, sealed_field, slot_mark, stored_as, written, cleared}
 use Rattle.captions.specs.Calls.{key_tests, other_class, class_tests, sheet_tests, caption_tests, write_tests, clear_tests, writing_with, clearing_with}
 use Rattle.captions.specs.Claim.{SameHeader, Regular, Sound}
-use Rattle.captions.specs.declared.Answer.{Answer}
-use Rattle.captions.specs.declared.Answer.TheVariants.{Accepted, WrongKey, TwinKeys, UnfitSheet, OtherKeyClass, NoSuchSlot, Overlong, Worn, OtherKeys, BrokenText}
-use Rattle.captions.proofs.Tables.{Unmet, end, next, decided_accepted}
-use Rattle.captions.proofs.Accepted.{zero_write, zero_clear}
+use Rattle.captions.proofs.Tables.{Unmet, end, next}
+use Rattle.captions.proofs.Accepted.{accepted_unmet}
 use Rattle.captions.proofs.Store.{Stored, store_slot_lem, store_last_lem}
 use Rattle.captions.proofs.Slot.{sealed_blocks, slot_mark_block}
-use Rattle.captions.proofs.ReadBack.{refusal}
 
 -- ---- a byte that is none of those stored
 
@@ -64,19 +58,9 @@ pub record Wrote (e : Edition) (x : Ciphers) (k : Keys) (s : List ℕ) (i : ℕ)
   pub unworn : last_write s ≢ 4294967295
 
 pub accepted_write : (e : Edition) (x : Ciphers) (k : Keys) (s : List ℕ) (i : ℕ) (c : List ℕ) → (writing_with e x k s i c).number ≡ 0 → Wrote e x k s i c
-unfolding writing_with write_tests key_tests sheet_tests class_tests caption_tests answer_number
-accepted_write e x k s i c h = go unmet
+unfolding writing_with write_tests key_tests sheet_tests class_tests caption_tests
+accepted_write e x k s i c h = go (accepted_unmet _ _ _ (write_tests e x k s i c) h)
   where
-    no : (a : Answer) → 1 ≤ answer_number a → outcome a s ≡ outcome (Accepted 0) (written x e s i c) → ⊥
-    no a = refusal a 0 s (written x e s i c)
-
-    unmet : Unmet (write_tests e x k s i c)
-    unmet =
-        decided_accepted (write_tests e x k s i c) (outcome (Accepted 0) (written x e s i c)) (λ a. outcome a s) (outcome (Accepted 0) (written x e s i c))
-        (next (no WrongKey (lit≤ tt)) (next (no TwinKeys (lit≤ tt)) (next (no (UnfitSheet (first_fault s)) (lit≤ tt)) (next (no OtherKeyClass (lit≤ tt))
-        (next (no OtherKeys (lit≤ tt)) (next (no NoSuchSlot (lit≤ tt)) (next (no Overlong (lit≤ tt)) (next (no BrokenText (lit≤ tt)) (next (no Worn (lit≤ tt)) end)))))))))
-        (zero_write e x k s i c h)
-
     go : Unmet (write_tests e x k s i c) → Wrote e x k s i c
     go (next t₁ (next t₂ (next t₄ (next t₅ (next t₁₄ (next t₆ (next t₇ (next t₁₅ (next t₈ end))))))))) =
         record {
@@ -169,17 +153,9 @@ pub record Emptied (e : Edition) (s : List ℕ) (i : ℕ) : Type 0 where
   pub slot : i < slots s
 
 pub accepted_clear : (e : Edition) (s : List ℕ) (i : ℕ) → (clearing_with e s i).number ≡ 0 → Emptied e s i
-unfolding clearing_with clear_tests answer_number
-accepted_clear e s i h = go unmet
+unfolding clearing_with clear_tests
+accepted_clear e s i h = go (accepted_unmet _ _ _ (clear_tests e s i) h)
   where
-    no : (a : Answer) → 1 ≤ answer_number a → outcome a s ≡ outcome (Accepted 0) (cleared e s i) → ⊥
-    no a = refusal a 0 s (cleared e s i)
-
-    unmet : Unmet (clear_tests e s i)
-    unmet =
-        decided_accepted (clear_tests e s i) (outcome (Accepted 0) (cleared e s i)) (λ a. outcome a s) (outcome (Accepted 0) (cleared e s i))
-        (next (no (UnfitSheet (first_fault s)) (lit≤ tt)) (next (no NoSuchSlot (lit≤ tt)) end)) (zero_clear e s i h)
-
     go : Unmet (clear_tests e s i) → Emptied e s i
     go (next t₄ (next t₆ end)) = record { fits = not-false (fit_in e s) t₄; slot = leb-false (slots s) i t₆ }
 

@@ -1,13 +1,12 @@
 -- The theorem about lists of calls on a sheet, for any edition and any block cipher: what is asked of them, and what then holds of every list of writes, clears and strangers' writes.
-use Rattle.std.specs.Prelude.{ℕ, ◌+◌, ◌≤◌, ◌<◌, ◌≡◌, true, List, [], ◌∷◌, length}
+use Rattle.std.specs.Prelude.{ℕ, ◌+◌, ◌≤◌, ◌<◌, ◌≡◌, true, List, [], ◌∷◌, length, Ok, Err}
 use Rattle.octets.specs.Bytes.{Bytes, zeros, part}
 use Rattle.octets.specs.Block.{ByteBlock, Invertible}
 use Rattle.layout.specs.Layout.{Edition, slots, last_write, fit_in}
 use Rattle.captions.specs.Answers.{Outcome, outcome, first_of}
 use Rattle.captions.specs.Captions.{Keys, Ciphers, padded}
 use Rattle.captions.specs.Calls.{pair_tests, writing_with, clearing_with, reading_with}
-use Rattle.captions.specs.declared.Answer.TheVariants.{Accepted, Blank}
-use Rattle.captions.specs.declared.Verdict.TheVariants.{Pass}
+use Rattle.captions.specs.declared.Refusal.TheVariants.{Blank}
 use Rattle.captions.specs.Runs.{Reply, replies, finally}
 use Rattle.captions.specs.Model.{Call, writes, clears, Page, blank, holds, new_model, page, answered, model_step}
 use Rattle.captions.specs.Turns.{Turn, own, stranger, own_calls, EachStranger, turn_model}
@@ -36,8 +35,8 @@ pub record AskedOfCalls : Type 0 where
 
 -- what a read of a slot answers and shows, by the page of the model
 unfoldable pub shown : Page → Outcome
-shown blank = outcome Blank (zeros 192)
-shown (holds c) = outcome (Accepted (length c)) (padded c)
+shown blank = outcome (Err Blank) (zeros 192)
+shown (holds c) = outcome (Ok (length c)) (padded c)
 
 -- ---- what is asked
 
@@ -63,7 +62,7 @@ pub record Sound (x : Ciphers) : Type 0 where
 pub record Fits (e : Edition) (x : Ciphers) (k : Keys) (s : List ℕ) : Type 0 where
   pub bytes : Bytes s
   pub fits : fit_in e s ≡ true
-  pub passes : first_of (pair_tests e x k s) ≡ Pass
+  pub passes : first_of (pair_tests e x k s) ≡ Ok tt
 
 -- of a stranger's keys k', on the way from the sheet s: a write under them answers the number given and changes nothing
 abbrev pub TurnedDown : Edition → (Turn → List ℕ → Reply × List ℕ) → (Keys → ℕ) → List ℕ → Keys → Type 0

@@ -4,16 +4,15 @@
 use faults::Fault;
 
 // What of an altered slot differs: its check, or else the first opened byte at or past the length that isn't zero.
-#[derive(Clone, Copy)]
+#[derive(Clone, Copy, Debug, PartialEq, Eq)]
 pub enum Change {
     Check,
     Byte(u8),
 }
 
-// An unfit sheet's answer carries its first fault, an altered slot's the slot and what differs.
-#[derive(Clone, Copy)]
-pub enum Answer {
-    Accepted(u16),
+// Why a call is refused. An unfit sheet comes with its first fault, an altered slot with its number and what differs.
+#[derive(Clone, Copy, Debug, PartialEq, Eq)]
+pub enum Refusal {
     WrongKey,
     TwinKeys,
     WrongSpan,
@@ -28,9 +27,12 @@ pub enum Answer {
     BrokenText,
 }
 
-// What a table of tests comes to.
+// What a call answers: the length of the caption that was read, and 0 for any other call.
+pub type Answer = Result<u16, Refusal>;
+
+// A pair of keys: one seals captions, the other checks them.
 #[derive(Clone, Copy)]
-pub enum Verdict {
-    Pass,
-    Refuse(Answer),
+pub struct Keys<'a> {
+    pub sealing: &'a [u8],
+    pub checking: &'a [u8],
 }

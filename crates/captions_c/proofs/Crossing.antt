@@ -2,10 +2,9 @@
 use mathlib.Core.Path.{◌≡◌, sym, ap, ap₂, ◌∙◌}
 use mathlib.Core.List.{List}
 use Prim.Native.Nat.{ℕ}
+use Rattle.captions.specs.Answers as Sheets
 use Rattle.captions.specs.Answers.{Outcome, outcome}
-use Rattle.captions.specs.declared.Answer as Sheets
-use Rattle.dated.specs.declared.DatedAnswer.{DatedAnswer}
-use Rattle.dated.specs.Calls.{DatedOutcome, dated_outcome}
+use Rattle.dated.specs.Calls.{DatedAnswer, DatedOutcome, dated_outcome}
 use Rattle.points.specs.Pointed.{answer_pointed, dated_pointed, pointed_outcome}
 use Rattle.points.specs.declared.Pointed.{Pointed}
 use Rattle.captions_c.specs.Answer.{crossed, plain}

@@ -7,7 +7,7 @@ ghost use Rattle.octets.specs.BlockCalls.{block_outcome};
 ghost use Rattle.mcrypton.specs.Calls.{encrypting, decrypting};
 ghost use Rattle.present.specs.Calls.{encrypting as present_encrypting, decrypting as present_decrypting};
 ghost use Rattle.chip_bench.specs.Calls.{bench_outcome, benching};
-ghost use Rattle.modes.specs.Answers.{mac_outcome, authenticating};
+ghost use Rattle.modes.specs.Answers.{authenticating};
 ghost use Rattle.panels.specs.Calls.{panel_outcome, panelling};
 ghost use Rattle.captions.specs.Answers.{outcome};
 ghost use Rattle.captions.specs.Captions.{pair};
@@ -20,6 +20,9 @@ ghost use Rattle.listing.specs.Listing.{listed};
 ghost use Rattle.running_order.specs.Calls.{order_outcome, ordering};
 ghost use Rattle.captions_c.specs.Answer.{crossed, plain, day_crossed, date_crossed};
 
+use chip_bench::BenchError;
+use octets::BlockError;
+use panels::PanelError;
 use points::Pointed;
 
 #[repr(C)]
@@ -52,94 +55,103 @@ fn numbered(number: u8) -> Answer
     Answer { number, length: 0 }
 }
 
-// Of a call on one block, whatever the cipher.
-fn block_answer(a: octets::BlockAnswer) -> Answer
-    ensures { (x : List ℕ) → crossed result x ≡ block_outcome a x }
-{
-    match a {
-        octets::BlockAnswer::Accepted => numbered(0),
-        octets::BlockAnswer::WrongKey => numbered(1),
-        octets::BlockAnswer::WrongSpan => numbered(3),
+// Of a call on one block, whatever the cipher, and of the CMAC.
+impl From<Result<(), BlockError>> for Answer {
+    ghost from_gives = { λ a r. (x : List ℕ) → crossed r x ≡ block_outcome a x };
+
+    #[tactic(auto, unfolding(octets::specs::BlockCalls::block_outcome))]
+    fn from(a: Result<(), BlockError>) -> Answer {
+        match a {
+            Ok(()) => numbered(0),
+            Err(BlockError::WrongKey) => numbered(1),
+            Err(BlockError::WrongSpan) => numbered(3),
+        }
     }
 }
 
-fn bench_answer(a: chip_bench::BenchAnswer) -> Answer
-    ensures { (x : List ℕ) → crossed result x ≡ bench_outcome a x }
-{
-    match a {
-        chip_bench::BenchAnswer::Accepted => numbered(0),
-        chip_bench::BenchAnswer::WrongKey => numbered(1),
-        chip_bench::BenchAnswer::WrongSpan => numbered(3),
-        chip_bench::BenchAnswer::NoSuchRound => numbered(13),
+impl From<Result<(), BenchError>> for Answer {
+    ghost from_gives = { λ a r. (x : List ℕ) → crossed r x ≡ bench_outcome a x };
+
+    #[tactic(auto, unfolding(chip_bench::specs::Calls::bench_outcome))]
+    fn from(a: Result<(), BenchError>) -> Answer {
+        match a {
+            Ok(()) => numbered(0),
+            Err(BenchError::WrongKey) => numbered(1),
+            Err(BenchError::WrongSpan) => numbered(3),
+            Err(BenchError::NoSuchRound) => numbered(13),
+        }
     }
 }
 
-fn mac_answer(a: modes::MacAnswer) -> Answer
-    ensures { (x : List ℕ) → crossed result x ≡ mac_outcome a x }
-{
-    match a {
-        modes::MacAnswer::Accepted => numbered(0),
-        modes::MacAnswer::WrongKey => numbered(1),
-        modes::MacAnswer::WrongSpan => numbered(3),
+impl From<Result<(), PanelError>> for Answer {
+    ghost from_gives = { λ a r. (x : List ℕ) → crossed r x ≡ panel_outcome a x };
+
+    #[tactic(auto, unfolding(panels::specs::Calls::panel_outcome))]
+    fn from(a: Result<(), PanelError>) -> Answer {
+        match a {
+            Ok(()) => numbered(0),
+            Err(PanelError::WrongKey) => numbered(1),
+            Err(PanelError::WrongSpan) => numbered(3),
+            Err(PanelError::Overlong) => numbered(7),
+        }
     }
 }
 
-fn panel_answer(a: panels::PanelAnswer) -> Answer
-    ensures { (x : List ℕ) → crossed result x ≡ panel_outcome a x }
-{
-    match a {
-        panels::PanelAnswer::Accepted => numbered(0),
-        panels::PanelAnswer::WrongKey => numbered(1),
-        panels::PanelAnswer::WrongSpan => numbered(3),
-        panels::PanelAnswer::Overlong => numbered(7),
+// Of blanking and clear: number and length. What a refused clear points at doesn't cross.
+impl From<captions::Answer> for Answer {
+    ghost from_gives = { λ a r. (x : List ℕ) → crossed r x ≡ plain (outcome a x) };
+
+    fn from(a: captions::Answer) -> Answer {
+        let p = Pointed::from(a);
+        Answer {
+            number: p.number,
+            length: p.length,
+        }
     }
 }
 
-fn order_answer(a: running_order::OrderAnswer) -> Answer
+// Of the running order: its length, or a wrong span where it doesn't fit.
+#[tactic(auto, unfolding(running_order::specs::Calls::order_outcome))]
+fn order_answer(a: Option<u16>) -> Answer
     ensures { (x : List ℕ) → crossed result x ≡ order_outcome a x }
 {
     match a {
-        running_order::OrderAnswer::Put(length) => Answer { number: 0, length },
-        running_order::OrderAnswer::WrongSpan => numbered(3),
+        Some(length) => Answer { number: 0, length },
+        None => numbered(3),
     }
 }
 
-// The answer of blanking and clear: number and length. What a refused clear points at doesn't cross.
-fn sheet_answer(a: captions::Answer) -> Answer
-    ensures { (x : List ℕ) → crossed result x ≡ plain (outcome a x) }
-{
-    let p = points::answer_pointed(a);
-    Answer {
-        number: p.number,
-        length: p.length,
+impl From<Option<u16>> for Day {
+    ghost from_gives = { λ a r. day_crossed r ≡ day_outcome a };
+
+    #[tactic(auto, unfolding(calendar::specs::Answers::day_outcome))]
+    fn from(a: Option<u16>) -> Day {
+        match a {
+            Some(day) => Day { number: 0, day },
+            None => Day { number: 11, day: 0 },
+        }
     }
 }
 
-fn day_answer(a: calendar::DayAnswer) -> Day
-    ensures { day_crossed result ≡ day_outcome a }
-{
-    match a {
-        calendar::DayAnswer::Day(day) => Day { number: 0, day },
-        calendar::DayAnswer::NoSuchDate => Day { number: 11, day: 0 },
-    }
-}
+impl From<Option<calendar::Date>> for Date {
+    ghost from_gives = { λ a r. date_crossed r ≡ date_outcome a };
 
-fn date_answer(a: calendar::DateAnswer) -> Date
-    ensures { date_crossed result ≡ date_outcome a }
-{
-    match a {
-        calendar::DateAnswer::Date { year, month, day } => Date {
-            number: 0,
-            year,
-            month,
-            day,
-        },
-        calendar::DateAnswer::NoSuchDate => Date {
-            number: 11,
-            year: 0,
-            month: 0,
-            day: 0,
-        },
+    #[tactic(auto, unfolding(calendar::specs::Answers::date_outcome))]
+    fn from(a: Option<calendar::Date>) -> Date {
+        match a {
+            Some(date) => Date {
+                number: 0,
+                year: date.year,
+                month: date.month,
+                day: date.day,
+            },
+            None => Date {
+                number: 11,
+                year: 0,
+                month: 0,
+                day: 0,
+            },
+        }
     }
 }
 
@@ -153,7 +165,7 @@ pub extern "C" fn captions_encrypt_block(
     ensures { crossed result out.new ≡ encrypting path key.now block.now out.old }
 {
     let a = mcrypton::encrypt_block(key, block, path, out);
-    block_answer(a)
+    Answer::from(a)
 }
 
 #[unsafe(no_mangle)]
@@ -166,7 +178,7 @@ pub extern "C" fn captions_decrypt_block(
     ensures { crossed result out.new ≡ decrypting path key.now block.now out.old }
 {
     let a = mcrypton::decrypt_block(key, block, path, out);
-    block_answer(a)
+    Answer::from(a)
 }
 
 #[unsafe(no_mangle)]
@@ -174,7 +186,7 @@ pub extern "C" fn captions_present_encrypt_block(key: &[u8], block: &[u8], out: 
     ensures { crossed result out.new ≡ present_encrypting key.now block.now out.old }
 {
     let a = present::encrypt_block(key, block, out);
-    block_answer(a)
+    Answer::from(a)
 }
 
 #[unsafe(no_mangle)]
@@ -182,7 +194,7 @@ pub extern "C" fn captions_present_decrypt_block(key: &[u8], block: &[u8], out: 
     ensures { crossed result out.new ≡ present_decrypting key.now block.now out.old }
 {
     let a = present::decrypt_block(key, block, out);
-    block_answer(a)
+    Answer::from(a)
 }
 
 #[unsafe(no_mangle)]
@@ -195,7 +207,7 @@ pub extern "C" fn captions_bench_block(
     ensures { crossed result out.new ≡ benching key.now round wanted.now out.old }
 {
     let a = chip_bench::bench_block(key, round, wanted, out);
-    bench_answer(a)
+    Answer::from(a)
 }
 
 #[unsafe(no_mangle)]
@@ -203,7 +215,7 @@ pub extern "C" fn captions_cmac(key: &[u8], message: &[u8], out: &mut [u8]) -> A
     ensures { crossed result out.new ≡ authenticating key.now message.now out.old }
 {
     let a = modes::cmac(key, message, out);
-    mac_answer(a)
+    Answer::from(a)
 }
 
 #[unsafe(no_mangle)]
@@ -211,7 +223,7 @@ pub extern "C" fn captions_panel(key: &[u8], first: u64, panel: &[u8], out: &mut
     ensures { crossed result out.new ≡ panelling key.now first panel.now out.old }
 {
     let a = panels::panel(key, first, panel, out);
-    panel_answer(a)
+    Answer::from(a)
 }
 
 #[unsafe(no_mangle)]
@@ -226,7 +238,7 @@ pub extern "C" fn captions_blank(
     ensures { crossed result sheet.new ≡ plain (blanking (pair sealing.now checking.now) sheet.old slots class serial) }
 {
     let a = sheet::blank(sheet, slots, class, serial, sealing, checking);
-    sheet_answer(a)
+    Answer::from(a)
 }
 
 #[unsafe(no_mangle)]
@@ -240,7 +252,7 @@ pub extern "C" fn captions_write(
     ensures { pointed_outcome result sheet.new ≡ writing (pair sealing.now checking.now) sheet.old slot caption.now }
 {
     let a = sheet::write(sealing, checking, sheet, slot, caption);
-    points::answer_pointed(a)
+    Pointed::from(a)
 }
 
 #[unsafe(no_mangle)]
@@ -248,7 +260,7 @@ pub extern "C" fn captions_clear(sheet: &mut [u8], slot: usize) -> Answer
     ensures { crossed result sheet.new ≡ plain (clearing sheet.old slot) }
 {
     let a = sheet::clear(sheet, slot);
-    sheet_answer(a)
+    Answer::from(a)
 }
 
 #[unsafe(no_mangle)]
@@ -262,7 +274,7 @@ pub extern "C" fn captions_read(
     ensures { pointed_outcome result window.new ≡ reading (pair sealing.now checking.now) sheet.now slot window.old }
 {
     let a = sheet::read(sealing, checking, sheet, slot, window);
-    points::answer_pointed(a)
+    Pointed::from(a)
 }
 
 #[unsafe(no_mangle)]
@@ -270,7 +282,7 @@ pub extern "C" fn captions_day_of_date(year: usize, month: usize, day: usize) ->
     ensures { day_crossed result ≡ day_of_date year month day }
 {
     let a = calendar::day_of_date(year, month, day);
-    day_answer(a)
+    Day::from(a)
 }
 
 #[unsafe(no_mangle)]
@@ -278,7 +290,7 @@ pub extern "C" fn captions_date_of_day(day: usize) -> Date
     ensures { date_crossed result ≡ date_of_day day }
 {
     let a = calendar::date_of_day(day);
-    date_answer(a)
+    Date::from(a)
 }
 
 #[unsafe(no_mangle)]
@@ -294,7 +306,7 @@ pub extern "C" fn captions_dated_read(
     ensures { pointed_outcome result window.new ≡ (dating (pair sealing.now checking.now) sheet.now terms.now slot day window.old).outcome }
 {
     let a = dated::dated_read(sealing, checking, sheet, terms, slot, day, window);
-    points::dated_pointed(a)
+    Pointed::from(a)
 }
 
 // The place of the first byte at which no well-formed text can go on, or the length.
@@ -310,7 +322,7 @@ pub extern "C" fn captions_broken_at(text: &[u8]) -> usize
 pub extern "C" fn captions_list(sheet: &[u8], out: &mut [u8]) -> usize
     ensures { (result, out.new) ≡ listed sheet.now out.old }
 {
-    listing::list(sheet, out)
+    listing::list(sheet, out).unwrap_or(0)
 }
 
 // The running order of the day that the text of a date names.

@@ -1,4 +1,5 @@
 -- What is said of the bench holds.
+use Rattle.std.specs.Prelude.{Ok}
 use Prim.Native.Nat.{ℕ, suc, ◌%◌, ◌≤◌}
 use mathlib.Core.Path.{◌≡◌, refl, sym, ap, ◌∙◌}
 use mathlib.Core.Bool.{true}
@@ -22,9 +23,8 @@ use Rattle.mcrypton.proofs.WordsOf.{words_bytes, bytes_words}
 use Rattle.mcrypton.proofs.ByteBlocks.{key_words, block_words, length_bytes, bytes_bytes}
 use Rattle.mcrypton.proofs.KeyLengths.{reflects_length}
 use Rattle.chip_bench.specs.Bench.{taken_back, leading_block}
-use Rattle.chip_bench.specs.Calls.{bench_number, bench_outcome, bench_tests, benching}
+use Rattle.chip_bench.specs.Calls.{error_number, bench_outcome, bench_tests, benching}
 use Rattle.chip_bench.specs.Laws.{array_after, Arrays, OneBlock, bench_clauses, BenchCalls, Bench}
-use Rattle.chip_bench.specs.declared.BenchAnswer.TheVariants.{Accepted}
 use Rattle.chip_bench.proofs.Calls.{accepts}
 use Rattle.chip_bench.proofs.Leads.{block_back, leads, only}
 
@@ -49,7 +49,7 @@ module _ (k : List ℕ) (r : ℕ) (wanted out : List ℕ) (tk : Bytes k) (hk : O
   key : Key (words_of k)
   key = key_words tk right
 
-  answer : benching k r wanted out ≡ bench_outcome Accepted (leading_block k r wanted)
+  answer : benching k r wanted out ≡ bench_outcome (Ok tt) (leading_block k r wanted)
   answer = sym (accepts k r wanted out true (sym right) refl hw ho l)
 
   back : Block (taken_back r (register (words_of k) r) (words_of wanted))
@@ -90,7 +90,7 @@ module _ (k : List ℕ) (r : ℕ) (wanted out : List ℕ) (tk : Bytes k) (hk : O
 -- ---- which calls are refused
 
 module _ (k : List ℕ) (r : ℕ) (wanted out : List ℕ) where
-  call_means : Means bench_number (bench_tests k r wanted out) (bench_clauses k r wanted out)
+  call_means : Means error_number (bench_tests k r wanted out) (bench_clauses k r wanted out)
   unfolding Means bench_tests bench_clauses
   call_means = (
     reflects_not (reflects_length (length k)),
@@ -104,11 +104,11 @@ module _ (k : List ℕ) (r : ℕ) (wanted out : List ℕ) where
 
   call_exactly : Exactly (benching k r wanted out).number (bench_clauses k r wanted out)
   unfolding benching bench_outcome
-  call_exactly = decided_exactly bench_number (λ (o : Outcome). o.number) _ _ refl (λ a. refl) _ _ call_means
+  call_exactly = decided_exactly error_number (λ (o : Outcome). o.number) _ _ refl (λ a. refl) _ _ call_means
 
   call_refused : ((benching k r wanted out).number ≡ 0 → ⊥) → Leaves (benching k r wanted out) out
   unfolding benching bench_outcome
-  call_refused = decided_refused bench_number (λ (o : Outcome). o.number) _ _ refl (λ a. refl) (λ o. Leaves o out) (λ a h. record { len = refl; bytes_are = refl }) _
+  call_refused = decided_refused error_number (λ (o : Outcome). o.number) _ _ refl (λ a. refl) (λ o. Leaves o out) (λ a h. record { len = refl; bytes_are = refl }) _
 
 -- by computing
 bench_calls : BenchCalls

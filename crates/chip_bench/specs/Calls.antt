@@ -1,23 +1,27 @@
 -- What the bench's call answers and leaves in the output.
-use Rattle.std.specs.Prelude.{ℕ, not, ◌&&◌, List, [], ◌∷◌, eqb, ltb, length}
+use Rattle.std.specs.Prelude.{ℕ, not, ◌&&◌, List, [], ◌∷◌, eqb, ltb, length, Result, Ok, Err}
 use Rattle.octets.specs.Outcome.{Outcome, Row, ◌gives◌, decided}
 use Rattle.mcrypton.specs.Bytes.{key_length}
 use Rattle.chip_bench.specs.Bench.{leading_block}
-use Rattle.chip_bench.specs.declared.BenchAnswer.{BenchAnswer}
-use Rattle.chip_bench.specs.declared.BenchAnswer.TheVariants.{Accepted, WrongKey, WrongSpan, NoSuchRound}
+use Rattle.chip_bench.specs.declared.BenchError.{BenchError}
+use Rattle.chip_bench.specs.declared.BenchError.TheVariants.{WrongKey, WrongSpan, NoSuchRound}
 
--- the number of each answer in documents 01 and 02; the length is always 0
-abbrev pub bench_number : BenchAnswer → ℕ
-bench_number Accepted = 0
-bench_number WrongKey = 1
-bench_number WrongSpan = 3
-bench_number NoSuchRound = 13
+-- the number of each refusal in documents 01 and 02
+abbrev pub error_number : BenchError → ℕ
+error_number WrongKey = 1
+error_number WrongSpan = 3
+error_number NoSuchRound = 13
 
-unfoldable pub bench_outcome : BenchAnswer → List ℕ → Outcome
+-- and of each answer: 0 is accepted. The length is always 0
+abbrev pub bench_number : Result Unit BenchError → ℕ
+bench_number (Ok done) = 0
+bench_number (Err e) = error_number e
+
+unfoldable pub bench_outcome : Result Unit BenchError → List ℕ → Outcome
 bench_outcome a bytes = record { number = bench_number a; len = 0; bytes = bytes }
 
 -- the tests, in their order: key k, round r, wanted array, output
-unfoldable pub bench_tests : List ℕ → ℕ → List ℕ → List ℕ → List (Row BenchAnswer)
+unfoldable pub bench_tests : List ℕ → ℕ → List ℕ → List ℕ → List (Row BenchError)
 bench_tests k r wanted out =
     (not (key_length (length k)) gives WrongKey)
     ∷ (not (eqb (length wanted) 8 && eqb (length out) 8) gives WrongSpan)
@@ -27,4 +31,4 @@ bench_tests k r wanted out =
 -- a refusal leaves the output as it was
 unfoldable pub benching : List ℕ → ℕ → List ℕ → List ℕ → Outcome
 benching k r wanted out =
-    decided (bench_tests k r wanted out) (bench_outcome Accepted (leading_block k r wanted)) (λ a. bench_outcome a out)
+    decided (bench_tests k r wanted out) (bench_outcome (Ok tt) (leading_block k r wanted)) (λ e. bench_outcome (Err e) out)

@@ -9,9 +9,9 @@ ghost use Rattle.chip_bench.specs.Calls.{bench_outcome, benching};
 use rounds::Direction;
 use schedule::Register;
 
-#[derive(Clone, Copy)]
-pub enum BenchAnswer {
-    Accepted,
+// Why the bench refuses a call.
+#[derive(Clone, Copy, Debug, PartialEq, Eq)]
+pub enum BenchError {
     WrongKey,
     WrongSpan,
     NoSuchRound,
@@ -23,11 +23,9 @@ fn register_at(u: Register, r: usize) -> Register
     ensures { result ≡ times r forward u }
 {
     let mut v = u;
-    let mut i: usize = 0;
-    while i < r {
+    for _i in 0..r {
         let next = v.forward();
         v = next;
-        i += 1;
     }
     v
 }
@@ -38,18 +36,15 @@ fn take_back(v: Register, a: [u16; 4]) -> [u16; 4]
     requires { v.round < 13 }
     ensures { result ≡ taken_back v.round v a }
 {
-    let s = rounds::sbox_tables();
     let mut u = v;
     let mut x = a;
-    let mut i = v.round;
-    while 0 < i {
-        let y = rounds::inverse_round(Direction::Encrypt, u.round_key(&s), x);
+    for _i in 0..v.round {
+        let y = rounds::inverse_round(Direction::Encrypt, u.round_key(), x);
         let before = u.backward();
         u = before;
         x = y;
-        i -= 1;
     }
-    rounds::sigma(u.round_key(&s), x)
+    rounds::sigma(u.round_key(), x)
 }
 
 // The block that leads to the array a after round r.
@@ -62,22 +57,27 @@ fn leading_block(key: &[u8], r: usize, a: [u8; 8]) -> [u8; 8]
 }
 
 // The one block whose array after the round is the wanted one.
-pub fn bench_block(key: &[u8], round: usize, wanted: &[u8], out: &mut [u8]) -> BenchAnswer
+pub fn bench_block(
+    key: &[u8],
+    round: usize,
+    wanted: &[u8],
+    out: &mut [u8],
+) -> Result<(), BenchError>
     ensures { bench_outcome result out.new ≡ benching key.now round wanted.now out.old }
 {
     if !mcrypton::key_length(key.len()) {
-        return BenchAnswer::WrongKey;
+        return Err(BenchError::WrongKey);
     }
     if wanted.len() != 8 {
-        return BenchAnswer::WrongSpan;
+        return Err(BenchError::WrongSpan);
     }
     if out.len() != 8 {
-        return BenchAnswer::WrongSpan;
+        return Err(BenchError::WrongSpan);
     }
     if 12 < round {
-        return BenchAnswer::NoSuchRound;
+        return Err(BenchError::NoSuchRound);
     }
     let b = leading_block(key, round, octets::block_at(wanted, 0));
     octets::copy_part(out, 0, &b);
-    BenchAnswer::Accepted
+    Ok(())
 }

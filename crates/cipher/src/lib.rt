@@ -19,32 +19,20 @@ pub struct Key {
 pub fn mcrypton_class(t: usize) -> bool
     ensures { result ≡ mcrypton_class t }
 {
-    if t == 4 {
-        return true;
-    }
-    if t == 6 {
-        return true;
-    }
-    t == 8
+    matches!(t, 4 | 6 | 8)
 }
 
 // Whether t is a class of PRESENT.
 pub fn present_class(t: usize) -> bool
     ensures { result ≡ present_class t }
 {
-    if t == 21 {
-        return true;
-    }
-    t == 24
+    matches!(t, 21 | 24)
 }
 
 pub fn class_known(t: usize) -> bool
     ensures { result ≡ class_known t }
 {
-    if mcrypton_class(t) {
-        return true;
-    }
-    present_class(t)
+    mcrypton_class(t) || present_class(t)
 }
 
 // The bytes of a key of a class, which is below 256 since it stands in one byte.
@@ -52,29 +40,18 @@ pub fn key_bytes(t: usize) -> usize
     requires { t < 256 }
     ensures { result ≡ key_bytes t }
 {
-    if t == 21 {
-        return 10;
+    match t {
+        21 => 10,
+        24 => 16,
+        _ => 2 * t,
     }
-    if t == 24 {
-        return 16;
-    }
-    2 * t
 }
 
 // Whether some class has keys of n bytes.
 pub fn sheet_key_length(n: usize) -> bool
     ensures { result ≡ sheet_key_length n }
 {
-    if n == 8 {
-        return true;
-    }
-    if n == 10 {
-        return true;
-    }
-    if n == 12 {
-        return true;
-    }
-    n == 16
+    matches!(n, 8 | 10 | 12 | 16)
 }
 
 pub fn load(class: usize, key: &[u8]) -> Key
@@ -106,12 +83,11 @@ fn encrypt_mcrypton(k: Key, b: [u8; 8]) -> [u8; 8]
 pub fn encrypt(k: Key, b: [u8; 8]) -> [u8; 8]
     ensures { result ≡ encrypted k b }
 {
-    let t = k.class;
-    if present_class(t) {
-        let words = k.words;
-        return present::encrypt_words(t == 24, words, b);
+    if present_class(k.class) {
+        present::encrypt_words(k.class == 24, k.words, b)
+    } else {
+        encrypt_mcrypton(k, b)
     }
-    encrypt_mcrypton(k, b)
 }
 
 fn decrypt_mcrypton(k: Key, b: [u8; 8]) -> [u8; 8]
@@ -124,12 +100,11 @@ fn decrypt_mcrypton(k: Key, b: [u8; 8]) -> [u8; 8]
 pub fn decrypt(k: Key, b: [u8; 8]) -> [u8; 8]
     ensures { result ≡ decrypted k b }
 {
-    let t = k.class;
-    if present_class(t) {
-        let words = k.words;
-        return present::decrypt_words(t == 24, words, b);
+    if present_class(k.class) {
+        present::decrypt_words(k.class == 24, k.words, b)
+    } else {
+        decrypt_mcrypton(k, b)
     }
-    decrypt_mcrypton(k, b)
 }
 
 // The words of the 24 blocks of a field, and their bytes.
@@ -138,11 +113,8 @@ fn field_words(s: &[u8]) -> [[u16; 4]; 24]
     ensures { result ≡ map words_of (blocks 24 s.now) }
 {
     let mut a = [[0u16; 4]; 24];
-    let mut i = 0;
-    while i < 24 {
-        let y = mcrypton::block_words(octets::block_at(s, 8 * i));
-        a[i] = y;
-        i += 1;
+    for (i, x) in a.iter_mut().enumerate() {
+        *x = mcrypton::block_words(octets::block_at(s, 8 * i));
     }
     a
 }
@@ -151,12 +123,8 @@ fn field_bytes(a: [[u16; 4]; 24]) -> [[u8; 8]; 24]
     ensures { result ≡ map bytes_of a }
 {
     let mut b = [[0u8; 8]; 24];
-    let mut i = 0;
-    while i < 24 {
-        let x = a[i];
-        let y = mcrypton::block_bytes(x);
-        b[i] = y;
-        i += 1;
+    for (i, y) in b.iter_mut().enumerate() {
+        *y = mcrypton::block_bytes(a[i]);
     }
     b
 }
@@ -177,11 +145,8 @@ fn field_blocks(s: &[u8]) -> [[u8; 8]; 24]
     ensures { result ≡ blocks 24 s.now }
 {
     let mut b = [[0u8; 8]; 24];
-    let mut i = 0;
-    while i < 24 {
-        let y = octets::block_at(s, 8 * i);
-        b[i] = y;
-        i += 1;
+    for (i, x) in b.iter_mut().enumerate() {
+        *x = octets::block_at(s, 8 * i);
     }
     b
 }
@@ -191,10 +156,9 @@ pub fn decrypt_blocks(k: Key, s: &[u8]) -> [[u8; 8]; 24]
     requires { 192 ≤ length s.now }
     ensures { result ≡ map (decrypted k) (blocks 24 s.now) }
 {
-    let t = k.class;
-    if present_class(t) {
-        let words = k.words;
-        return present::decrypt_all(t == 24, words, field_blocks(s));
+    if present_class(k.class) {
+        present::decrypt_all(k.class == 24, k.words, field_blocks(s))
+    } else {
+        decrypt_blocks_mcrypton(k, s)
     }
-    decrypt_blocks_mcrypton(k, s)
 }

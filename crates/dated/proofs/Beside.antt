@@ -8,21 +8,22 @@ use native.Mathlib.Omega.{arith}
 use lib.Dec.{eqb, leb, ltb, lit≤}
 use lib.ListN.{length}
 use borrow.Author.Tests.{ltb-false, not-false}
+use Rattle.std.specs.Prelude.{Ok, Err}
 use Rattle.octets.specs.Bytes.{zeros, same}
 use Rattle.octets.specs.Outcome.{◌gives◌, decided}
 use Rattle.octets.proofs.Clauses.{reflects_not, reflects_yes, reflects_no, reflects_ltb}
 use Rattle.layout.specs.Layout.{edition_of, slots, key_class, mark_length, mark, fit_in, blank_slot}
-use Rattle.faults.specs.Faults.{first_fault}
+use Rattle.faults.specs.Faults.{fault_of}
 use Rattle.faults.specs.declared.Fault.{Fault}
 use Rattle.captions.specs.Answers.{Outcome, outcome, answer_number, answer_length, answer_point}
 use Rattle.captions.specs.Captions.{Keys, Ciphers, loaded_for, other_keys, opened, altered, change}
 use Rattle.captions.specs.Calls.{wrong_keys, other_class, key_tests, class_tests, sheet_tests, window_tests, open_tests, read_tests, reading_with, reading}
 use Rattle.captions.specs.declared.Change.{Change}
-use Rattle.captions.specs.declared.Answer.TheVariants.{Accepted, WrongKey, TwinKeys, WrongSpan, UnfitSheet, OtherKeyClass, NoSuchSlot, Blank, Altered, OtherKeys}
+use Rattle.captions.specs.declared.Refusal.TheVariants.{WrongKey, TwinKeys, WrongSpan, UnfitSheet, OtherKeyClass, NoSuchSlot, Blank, Altered, OtherKeys}
 use Rattle.terms.specs.Terms.{fit_terms, on_show}
 use Rattle.terms.specs.Rules.{MeetsTerms}
 use Rattle.terms.proofs.Meaning.{reflects_terms, reflects_show}
-use Rattle.dated.specs.declared.DatedAnswer.TheVariants.{Read, UnfitTerms, NoSuchDate, NotOnShow}
+use Rattle.dated.specs.declared.DatedRefusal.TheVariants.{Read, UnfitTerms, NoSuchDate, NotOnShow}
 use Rattle.dated.specs.Calls.{DatedOutcome, dated_number, dated_length, dated_point, of_terms, dated_outcome, undated, dated_tests, dating_with, dating}
 use Rattle.dated.specs.Laws.{NoneTo, TermsRefuse, DateRefuses, ShowRefuses, BesideUndated}
 
@@ -33,13 +34,13 @@ module _ (m : ℕ) (o z : List ℕ) (f : Fault) (i : ℕ) (c : Change) where
   undated_of b₁ b₂ b₃ b₄ b₅ b₁₄ b₆ b₉ b₁₀ =
       decided
       ((b₁ gives WrongKey) ∷ (b₂ gives TwinKeys) ∷ (b₃ gives WrongSpan) ∷ (b₄ gives UnfitSheet f) ∷ (b₅ gives OtherKeyClass) ∷ (b₁₄ gives OtherKeys) ∷ (b₆ gives NoSuchSlot) ∷ (b₉ gives Blank) ∷ (b₁₀ gives Altered i c) ∷ [])
-      (outcome (Accepted m) o) (λ a. outcome a z)
+      (outcome (Ok m) o) (λ r. outcome (Err r) z)
 
   dated_of : (b₁ b₂ b₃ b₄ bₜ b₅ b₁₁ b₁₄ b₆ b₉ b₁₂ b₁₀ : Bool) → DatedOutcome
   dated_of b₁ b₂ b₃ b₄ bₜ b₅ b₁₁ b₁₄ b₆ b₉ b₁₂ b₁₀ =
       decided
       ((b₁ gives Read WrongKey) ∷ (b₂ gives Read TwinKeys) ∷ (b₃ gives Read WrongSpan) ∷ (b₄ gives Read (UnfitSheet f)) ∷ (bₜ gives UnfitTerms) ∷ (b₅ gives Read OtherKeyClass) ∷ (b₁₁ gives NoSuchDate) ∷ (b₁₄ gives Read OtherKeys) ∷ (b₆ gives Read NoSuchSlot) ∷ (b₉ gives Read Blank) ∷ (b₁₂ gives NotOnShow) ∷ (b₁₀ gives Read (Altered i c)) ∷ [])
-      (dated_outcome (Read (Accepted m)) o) (λ a. dated_outcome a z)
+      (dated_outcome (Ok m) o) (λ r. dated_outcome (Err r) z)
 
 -- when each of the three applies, with u the undated number
 data TermsBy (bₜ : Bool) (u : ℕ) : Type 0 where
@@ -207,7 +208,7 @@ module _ (k : Keys) (s t : List ℕ) (i day : ℕ) (window : List ℕ) where
   the_way =
       let e = edition_of s in
       let x : Ciphers = loaded_for (key_class s) k in
-      way (mark_length (mark e s i)) (opened x e s i) (zeros (length window)) (first_fault s) i (change x e s i) (wrong_keys k) (same k.sealing k.checking) (not (eqb (length window) 192)) (not (fit_in e s)) unfit (other_class k s) late (other_keys x e s) (leb (slots s) i) (blank_slot e s i) off (altered x e s i)
+      way (mark_length (mark e s i)) (opened x e s i) (zeros (length window)) (fault_of s) i (change x e s i) (wrong_keys k) (same k.sealing k.checking) (not (eqb (length window) 192)) (not (fit_in e s)) unfit (other_class k s) late (other_keys x e s) (leb (slots s) i) (blank_slot e s i) off (altered x e s i)
 
   fit_terms_lem : unfit ≡ false → MeetsTerms (slots s) t
   fit_terms_lem f = (reflects_terms (slots s) t).holds (not-false _ f)

@@ -5,6 +5,7 @@ use mathlib.Core.List.{List, [], ◌∷◌, ◌++◌}
 use native.Mathlib.Omega.{arith}
 use lib.ListN.{length, replicate}
 use borrow.Author.Tests.{leb-false, not-false}
+use Rattle.std.specs.Prelude.{Err}
 use Rattle.octets.specs.Bytes.{number, zeros, all_zero, same, all_below, be}
 use Rattle.octets.specs.Outcome.{decided}
 use Rattle.octets.specs.Clauses.{Exactly, Each, none, and}
@@ -17,12 +18,12 @@ use Rattle.captions.specs.Answers.{Outcome, outcome, answer_number}
 use Rattle.captions.specs.Captions.{Keys, pair, loaded_for, other_keys}
 use Rattle.captions.specs.Calls.{wrong_keys, other_class, key_tests}
 use Rattle.captions.specs.Refusals.{Leaves}
-use Rattle.captions.proofs.Refusals.{reflects_keys, reflects_unfit, reflects_class, reflects_mark, reflects_altered, leaves, keys_of, keyed_with, keyed_meets, keyed_slots, other, other_reads}
+use Rattle.captions.proofs.Refusals.{reflects_keys, reflects_unfit, reflects_class, reflects_mark, reflects_altered, refusal_leaves, keys_of, keyed_with, keyed_meets, keyed_slots, other, other_reads}
 use Rattle.terms.specs.Terms.{count, opening, closing, fit_terms, on_show}
 use Rattle.terms.specs.Rules.{OnShow}
 use Rattle.terms.proofs.Meaning.{reflects_terms, reflects_show}
-use Rattle.dated.specs.declared.DatedAnswer.{DatedAnswer}
-use Rattle.dated.specs.declared.DatedAnswer.TheVariants.{Read, UnfitTerms, NoSuchDate, NotOnShow}
+use Rattle.dated.specs.declared.DatedRefusal.{DatedRefusal}
+use Rattle.dated.specs.declared.DatedRefusal.TheVariants.{Read, UnfitTerms, NoSuchDate, NotOnShow}
 use Rattle.dated.specs.Calls.{DatedOutcome, dated_number, dated_length, dated_point, of_terms, dated_outcome, undated, dated_tests, dating_with, dating}
 use Rattle.dated.specs.Laws.{dated_clauses, DatedOf, TermsMet, always_open, DatedReads}
 use Rattle.dated.proofs.Beside.{beside}
@@ -32,7 +33,7 @@ use Rattle.dated.proofs.Spelled.{refusals}
 -- ---- the table means the clauses
 
 module _ (k : Keys) (s t : List ℕ) (i day : ℕ) (window : List ℕ) where
-  dated_means : Means dated_number (dated_tests (edition_of s) (loaded_for (key_class s) k) k s t i day window) (dated_clauses k s t i day window)
+  dated_means : Means (λ r. dated_number (Err r)) (dated_tests (edition_of s) (loaded_for (key_class s) k) k s t i day window) (dated_clauses k s t i day window)
   unfolding Means dated_tests undated key_tests dated_clauses dated_number answer_number
   dated_means = (
     reflects_keys k,
@@ -83,12 +84,12 @@ module _ (k : Keys) (s t : List ℕ) (i day : ℕ) (window : List ℕ) where
 
   dated_exactly : Exactly (dating k s t i day window).outcome.number (dated_clauses k s t i day window)
   unfolding dating dating_with dated_outcome dated_number answer_number
-  dated_exactly = decided_exactly dated_number (λ (d : DatedOutcome). d.outcome.number) _ _ refl (λ a. refl) _ _ dated_means
+  dated_exactly = decided_exactly (λ r. dated_number (Err r)) (λ (d : DatedOutcome). d.outcome.number) _ _ refl (λ a. refl) _ _ dated_means
 
   -- a refusal of the undated read, and one of the three
-  refused_leaves : (a : DatedAnswer) (bytes : List ℕ) → (dated_number a ≡ 0 → ⊥) → Leaves (dated_outcome a bytes).outcome bytes
+  refused_leaves : (r : DatedRefusal) (bytes : List ℕ) → (dated_number (Err r) ≡ 0 → ⊥) → Leaves (dated_outcome (Err r) bytes).outcome bytes
   unfolding dated_outcome dated_number dated_length dated_point outcome
-  refused_leaves (Read a) bytes h = leaves a bytes h
+  refused_leaves (Read r) bytes h = refusal_leaves r bytes
   refused_leaves UnfitTerms bytes h = record { len = refl; bytes_are = refl }
   refused_leaves NoSuchDate bytes h = record { len = refl; bytes_are = refl }
   refused_leaves NotOnShow bytes h = record { len = refl; bytes_are = refl }
@@ -96,8 +97,8 @@ module _ (k : Keys) (s t : List ℕ) (i day : ℕ) (window : List ℕ) where
   dated_refused : ((dating k s t i day window).outcome.number ≡ 0 → ⊥) → Leaves (dating k s t i day window).outcome (zeros (length window))
   unfolding dating dating_with dated_outcome dated_number answer_number
   dated_refused =
-      decided_refused dated_number (λ (d : DatedOutcome). d.outcome.number) _ _ refl (λ a. refl) (λ d. Leaves d.outcome (zeros (length window)))
-      (λ a. refused_leaves a (zeros (length window))) _
+      decided_refused (λ r. dated_number (Err r)) (λ (d : DatedOutcome). d.outcome.number) _ _ refl (λ a. refl) (λ d. Leaves d.outcome (zeros (length window)))
+      (λ r. refused_leaves r (zeros (length window))) _
 
 -- ---- each number is met: keys of zeros and ones, a sheet of one slot, blank or written, and a term of day 5 alone
 

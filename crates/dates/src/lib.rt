@@ -5,24 +5,24 @@ ghost use Rattle.std.specs.Prelude.{◌≡◌, ◌+◌, ◌<◌, length};
 ghost use Rattle.calendar.specs.Answers.{day_outcome};
 ghost use Rattle.dates.specs.DateText.{date_text, day_text, digit_at, two_at, day_of_text};
 
-use calendar::{DateAnswer, DayAnswer};
+use calendar::Date;
 
-const HYPHEN: u8 = 45;
+const HYPHEN: u8 = b'-';
 
 fn date_text(year: usize, month: usize, day: usize) -> [u8; 10]
     ensures { result ≡ date_text year month day }
 {
     [
-        (48 + year / 1000 % 10) as u8,
-        (48 + year / 100 % 10) as u8,
-        (48 + year / 10 % 10) as u8,
-        (48 + year % 10) as u8,
+        b'0' + (year / 1000 % 10) as u8,
+        b'0' + (year / 100 % 10) as u8,
+        b'0' + (year / 10 % 10) as u8,
+        b'0' + (year % 10) as u8,
         HYPHEN,
-        (48 + month / 10 % 10) as u8,
-        (48 + month % 10) as u8,
+        b'0' + (month / 10 % 10) as u8,
+        b'0' + (month % 10) as u8,
         HYPHEN,
-        (48 + day / 10 % 10) as u8,
-        (48 + day % 10) as u8,
+        b'0' + (day / 10 % 10) as u8,
+        b'0' + (day % 10) as u8,
     ]
 }
 
@@ -30,12 +30,11 @@ fn date_text(year: usize, month: usize, day: usize) -> [u8; 10]
 pub fn day_text(day: usize) -> [u8; 10]
     ensures { result ≡ day_text day }
 {
-    let date = calendar::date_of_day(day);
-    match date {
-        DateAnswer::Date { year, month, day } => {
-            date_text(year as usize, month as usize, day as usize)
+    match calendar::date_of_day(day) {
+        Some(Date { year, month, day }) => {
+            date_text(usize::from(year), usize::from(month), usize::from(day))
         }
-        DateAnswer::NoSuchDate => date_text(0, 0, 0),
+        None => date_text(0, 0, 0),
     }
 }
 
@@ -55,17 +54,17 @@ fn two_digits(text: &[u8], i: usize) -> usize
 }
 
 // What the digits spell is put back into text and compared, so that nothing but a date's text passes.
-pub fn day_of_text(text: &[u8]) -> DayAnswer
+pub fn day_of_text(text: &[u8]) -> Option<u16>
     ensures { day_outcome result ≡ day_of_text text.now }
 {
     if text.len() != 10 {
-        return DayAnswer::NoSuchDate;
+        return None;
     }
     let year = 100 * two_digits(text, 0) + two_digits(text, 2);
     let month = two_digits(text, 5);
     let day = two_digits(text, 8);
     if !octets::same_bytes(text, &date_text(year, month, day)) {
-        return DayAnswer::NoSuchDate;
+        return None;
     }
     calendar::day_of_date(year, month, day)
 }

@@ -3,14 +3,14 @@ use Prim.Native.Nat.{ℕ, ◌-◌}
 use mathlib.Core.Path.{◌≡◌, refl, sym, ap, ◌∙◌}
 use mathlib.Core.List.{List, [], ◌∷◌, ◌++◌, map}
 use lib.ListN.{length}
+use Rattle.std.specs.Prelude.{Ok, Err}
 use Rattle.octets.specs.Bytes.{zeros}
 use Rattle.octets.specs.Block.{ByteBlock, Invertible}
 use Rattle.layout.specs.Layout.{edition_of, slots, fit}
 use Rattle.captions.specs.Captions.{Keys, Ciphers, padded}
 use Rattle.captions.specs.Calls.{pair_tests, clearing}
 use Rattle.captions.specs.Answers.{Outcome, answer_number, answer_length, first_of}
-use Rattle.captions.specs.declared.Answer.TheVariants.{Accepted, Blank}
-use Rattle.captions.specs.declared.Verdict.TheVariants.{Pass}
+use Rattle.captions.specs.declared.Refusal.TheVariants.{Blank}
 use Rattle.captions.specs.Runs.{Reply, finally, replies}
 use Rattle.captions.specs.Model.{Call, writes, clears, Page, blank, holds, new_model}
 use Rattle.captions.specs.Turns.{Turn, own, stranger, own_calls, EachStranger, none as no_stranger, past, turn_model}
@@ -26,11 +26,11 @@ use Rattle.demands.proofs.Gives.{gives}
 module _ {o : Outcome} {x : Page} (e : o ≡ shown x) where
   pub shows_blank : x ≡ blank → Gives o 9 0 (zeros 192)
   unfolding shown answer_number answer_length
-  shows_blank h = gives Blank (zeros 192) (e ∙ ap shown h)
+  shows_blank h = gives (Err Blank) (zeros 192) (e ∙ ap shown h)
 
   pub shows_caption : (c : List ℕ) → x ≡ holds c → Gives o 0 (length c) (c ++ zeros (192 - length c))
   unfolding shown padded answer_number answer_length
-  shows_caption c h = gives (Accepted (length c)) (padded c) (e ∙ ap shown h)
+  shows_caption c h = gives (Ok (length c)) (padded c) (e ∙ ap shown h)
 
 -- ---- a list without strangers
 
@@ -63,7 +63,7 @@ module _ (x : Ciphers) (k : Keys) (s : List ℕ) where
   same_step (clears i) s' h = rw (edition_kept s s' h)
 
   module _ (calls : List Call) (seals : Invertible x.E x.D) (checks : (b : List ℕ) → ByteBlock b → ByteBlock (x.M b)) (fresh : BlankSheet s)
-      (passes : first_of (pair_tests (edition_of s) x k s) ≡ Pass) (captions : Captions calls) where
+      (passes : first_of (pair_tests (edition_of s) x k s) ≡ Ok tt) (captions : Captions calls) where
     follows : FollowsModel (edition_of s) x k turn_by (λ k'. 0) s (map own calls)
     unfolding turn_by fit
     follows =

@@ -6,6 +6,7 @@ use mathlib.Core.List.{List}
 use lib.Dec.{eqb}
 use lib.ListN.{length}
 use borrow.Author.Tests.{eqb-true, not-false}
+use Rattle.std.specs.Prelude.{Ok, Err}
 use Rattle.octets.specs.Bytes.{Bytes, be, number}
 use Rattle.octets.proofs.Bool.{and_right}
 use Rattle.mcrypton.specs.Bytes.{encrypt_bytes, decrypt_bytes}
@@ -22,7 +23,6 @@ use Rattle.layout.proofs.Header.{rule_classes}
 use Rattle.layout.proofs.Fits.{fit_facts}
 use Rattle.layout.proofs.Meaning.{reflects_class}
 use Rattle.captions.specs.Captions.{Keys, Ciphers, loaded_for, key_mark}
-use Rattle.captions.specs.declared.Answer.TheVariants.{Accepted}
 use Rattle.captions.specs.Calls.{wrong_keys, key_tests, other_class, blank_tests, writing, reading, blanking_with, blanking}
 use Rattle.captions.specs.Answers.{outcome}
 use Rattle.captions.specs.Claim.{Sound}
@@ -172,5 +172,5 @@ module _ (k : Keys) (b : List ℕ) (n t : ℕ) (u : Unmet (blank_tests k b n t))
 pub code_blanks : CodeBlanks
 unfolding blanking_by blanking blanking_with
 code_blanks p k s n t v =
-    decided_cong (blank_tests k s n t) _ _ (λ a. outcome a s)
-    (λ u. ap (λ (x : Ciphers). outcome (Accepted 0) (blank_sheet n t v (key_mark x n t v))) (paths_loaded k t (blank_keys k s n t u) (blank_size k s n t u) p p))
+    decided_cong (blank_tests k s n t) _ _ (λ r. outcome (Err r) s)
+    (λ u. ap (λ (x : Ciphers). outcome (Ok 0) (blank_sheet n t v (key_mark x n t v))) (paths_loaded k t (blank_keys k s n t u) (blank_size k s n t u) p p))

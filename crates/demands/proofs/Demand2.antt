@@ -4,6 +4,7 @@ use mathlib.Core.Path.{◌≡◌, refl}
 use mathlib.Core.Bool.{true}
 use mathlib.Core.List.{List, ◌++◌}
 use lib.ListN.{length}
+use Rattle.std.specs.Prelude.{Ok}
 use Rattle.octets.specs.Bytes.{Bytes, be, zeros}
 use Rattle.modes.proofs.Chained.{cbc_steps}
 use Rattle.modes.proofs.Printed.{mac_steps}
@@ -13,7 +14,6 @@ use Rattle.captions.specs.Answers.{answer_number, answer_length, outcome}
 use Rattle.captions.specs.Captions.{Keys, Ciphers, mark_block, key_mark, padded, new_mark, start_block, sealed_field, check_of, slot_mark, written, opened}
 use Rattle.captions.specs.Calls.{clearing}
 use Rattle.captions.specs.Claim.{Sound, shown}
-use Rattle.captions.specs.declared.Answer.TheVariants.{Accepted}
 use Rattle.captions.proofs.Accepted.{zero_read, zero_write, zero_clear}
 use Rattle.captions.proofs.Editions.{editions_regular, edition_kept, fit_class}
 use Rattle.captions.proofs.Effect.{held_read}
@@ -42,7 +42,7 @@ module _ (p q : ℕ) (k : Keys) (s : List ℕ) (i : ℕ) (window : List ℕ) (se
   unfolding fit x
   sound = paths_sound k s read.keys read.class p q (fit_class s read.fits) sealing checking
 
-  came : reading_by p q k s i window ≡ outcome (Accepted (mark_length (mark (edition_of s) s i))) (opened x (edition_of s) s i)
+  came : reading_by p q k s i window ≡ outcome (Ok (mark_length (mark (edition_of s) s i))) (opened x (edition_of s) s i)
   unfolding reading_by x
   came = zero_read (edition_of s) x k s i window accepted
 
@@ -79,7 +79,7 @@ module _ (p : ℕ) (k : Keys) (s : List ℕ) (i : ℕ) (c : List ℕ)
   unfolding s'
   leaves = write_back (edition_of s) y s i c (editions_regular s) write_sound k bytes caption wrote
 
-  stored_as_lem : writing_by p k s i c ≡ outcome (Accepted 0) s'
+  stored_as_lem : writing_by p k s i c ≡ outcome (Ok 0) s'
   unfolding writing_by y s'
   stored_as_lem = zero_write (edition_of s) y k s i c accepted
 
@@ -103,7 +103,7 @@ held : (p q : ℕ) (k : Keys) (s : List ℕ) (i w : ℕ) (c window : List ℕ) �
     → Gives (reading_by p q k s i window) 0 (length c) (c ++ zeros (192 - length c))
 unfolding reading_by shown padded answer_number answer_length sealed_field start_block slot_mark new_mark check_of
 held p q k s i w c window serves bytes fits slot positive small caption short l h =
-    gives (Accepted (length c)) (padded c)
+    gives (Ok (length c)) (padded c)
     (held_read (edition_of s) (by_paths (key_class s) p q k) k s (served_fits p q k s serves bytes fits) (served_sound p q k s serves fits) w i c slot short caption positive small
     h.field_is h.mark_is window l)
 

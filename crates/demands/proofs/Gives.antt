@@ -2,8 +2,7 @@
 use Prim.Native.Nat.{ℕ}
 use mathlib.Core.Path.{◌≡◌, ap}
 use mathlib.Core.List.{List}
-use Rattle.captions.specs.Answers.{Outcome, answer_number, answer_length, outcome}
-use Rattle.captions.specs.declared.Answer.{Answer}
+use Rattle.captions.specs.Answers.{Answer, Outcome, answer_number, answer_length, outcome}
 use Rattle.demands.specs.Steps.{Gives}
 
 pub gives : {o : Outcome} (a : Answer) (bytes : List ℕ) → o ≡ outcome a bytes → Gives o (answer_number a) (answer_length a) bytes

@@ -7,6 +7,7 @@ use mathlib.Core.List.{List}
 use native.Mathlib.Omega.{arith}
 use lib.ListN.{length}
 use borrow.Author.Tests.{eq-eqb}
+use Rattle.std.specs.Prelude.{Err}
 use Rattle.octets.specs.Bytes.{if◌then◌otherwise◌, zeros, same}
 use Rattle.octets.specs.Outcome.{decided}
 use Rattle.octets.specs.Clauses.{Answers, Exactly}
@@ -16,10 +17,10 @@ use Rattle.layout.specs.Layout.{edition_of, key_class, edition_byte, stored_mark
 use Rattle.layout.specs.Rules.{MeetsLayout}
 use Rattle.layout.proofs.Header.{edition_cases, edition_three}
 use Rattle.layout.proofs.Meaning.{reflects_fit}
-use Rattle.captions.specs.Answers.{Outcome, answer_number, answer_length, outcome}
+use Rattle.captions.specs.Answers.{Outcome, refusal_number, answer_number, answer_length, outcome}
 use Rattle.captions.specs.Captions.{Keys, Ciphers, mark_for, other_keys}
 use Rattle.captions.specs.Calls.{wrong_keys, other_class, key_tests, class_tests, pair_tests, caption_tests, sheet_tests, window_tests, open_tests, write_tests, read_tests, writing_with, reading_with}
-use Rattle.captions.specs.declared.Answer.TheVariants.{OtherKeys}
+use Rattle.captions.specs.declared.Refusal.TheVariants.{OtherKeys}
 use Rattle.captions.specs.Runs.{Reply}
 use Rattle.captions.specs.Model.{answered}
 use Rattle.captions.specs.Claim.{stepped}
@@ -52,21 +53,21 @@ module _ (p : ℕ) (k : Keys) (s : List ℕ) (o : OtherPair p k s) where
   unfolding fit
   fits = meets s o.fits
 
-  other_write : (i : ℕ) (c : List ℕ) → writing_by p k s i c ≡ outcome OtherKeys s
+  other_write : (i : ℕ) (c : List ℕ) → writing_by p k s i c ≡ outcome (Err OtherKeys) s
   unfolding writing_by writing_with write_tests key_tests sheet_tests class_tests caption_tests decided
   other_write i c = rw (right, same_differ k.sealing k.checking o.unlike, fits, class, other)
 
-  same_read : (i : ℕ) (window : List ℕ) → length window ≡ 192 → reading_by p p k s i window ≡ outcome OtherKeys (zeros 192)
+  same_read : (i : ℕ) (window : List ℕ) → length window ≡ 192 → reading_by p p k s i window ≡ outcome (Err OtherKeys) (zeros 192)
   unfolding reading_by reading_with read_tests open_tests window_tests key_tests sheet_tests class_tests decided
   same_read i window l = rw (right, same_differ k.sealing k.checking o.unlike, eq-eqb (length window) 192 l, fits, class, other, l)
 
-  other_read : (q i : ℕ) (window : List ℕ) → length window ≡ 192 → reading_by p q k s i window ≡ outcome OtherKeys (zeros 192)
+  other_read : (q i : ℕ) (window : List ℕ) → length window ≡ 192 → reading_by p q k s i window ≡ outcome (Err OtherKeys) (zeros 192)
   other_read q i window l = code_reads p q k s i window ∙ sym (code_reads p p k s i window) ∙ same_read i window l
 
 -- ---- the number
 
-pair_means : (k : Keys) (s : List ℕ) → Means answer_number (pair_tests (edition_of s) (by_paths (key_class s) 0 0 k) k s) (pair_clauses k s)
-unfolding Means pair_tests key_tests class_tests pair_clauses answer_number
+pair_means : (k : Keys) (s : List ℕ) → Means refusal_number (pair_tests (edition_of s) (by_paths (key_class s) 0 0 k) k s) (pair_clauses k s)
+unfolding Means pair_tests key_tests class_tests pair_clauses
 pair_means k s = (
   reflects_keys k,
   refl,
@@ -83,7 +84,7 @@ pair_means k s = (
 
 numbers : (k : Keys) (s : List ℕ) → Exactly (key_refusal k s) (pair_clauses k s)
 unfolding key_refusal
-numbers k s = decided_exactly answer_number (λ (n : ℕ). n) 0 answer_number refl (λ a. refl) _ _ (pair_means k s)
+numbers k s = decided_exactly refusal_number (λ (n : ℕ). n) 0 refusal_number refl (λ a. refl) _ _ (pair_means k s)
 
 -- ---- no mark
 
@@ -92,7 +93,7 @@ unfolding other_keys
 unmarked x s n = edition_cases (λ e. e.keyed && not (same (mark_for x s) (stored_mark s)) ≡ false) s (λ f g. refl) (λ h. refl) (λ h. absurd (n h))
 
 old_stranger : (k : Keys) (s : List ℕ) → edition_byte s ≢ 3 → key_refusal k s ≢ 14
-unfolding key_refusal pair_tests key_tests class_tests decided answer_number
+unfolding key_refusal pair_tests key_tests class_tests decided
 old_stranger k s n = rw (unmarked (by_paths (key_class s) 0 0 k) s n) (go (wrong_keys k) (same k.sealing k.checking) (other_class k s))
   where
     go : (t₁ t₂ t₅ : Bool) → ◌≢◌ {A = ℕ} (if t₁ then 1 otherwise if t₂ then 2 otherwise if t₅ then 5 otherwise 0) 14
@@ -137,8 +138,8 @@ pub key_marks : KeyMarks
 unfolding answer_number answer_length
 key_marks =
     record {
-      write = λ p k s i c o. gives OtherKeys s (other_write p k s o i c);
-      read = λ p q k s i window o l. gives OtherKeys (zeros 192) (other_read p k s o q i window l);
+      write = λ p k s i c o. gives (Err OtherKeys) s (other_write p k s o i c);
+      read = λ p q k s i window o l. gives (Err OtherKeys) (zeros 192) (other_read p k s o q i window l);
       stranger = λ p k s i c m h. stepped_gives (stranger_write p k s i c (meets s m) h);
       stranger_read = λ p q k s i window m h l. stepped_gives (stranger_read p q k s i window (meets s m) h l);
       ask = λ p k s f e r u c m. record { fits = f; edition = e; right = r; unlike = u; class = c; mark = m };

@@ -7,6 +7,7 @@ use native.Mathlib.Omega.{arith}
 use lib.Dec.{lit<}
 use lib.ListN.{length, replicate, length-replicate}
 use borrow.Author.Tests.{eq-eqb, not-false}
+use Rattle.std.specs.Prelude.{Ok, Err}
 use Rattle.octets.specs.Bytes.{Bytes, none, more, zeros, same}
 use Rattle.captions.specs.Model.{Page, blank, holds}
 use Rattle.octets.proofs.Bool.{not_both, and_left, and_both}
@@ -24,8 +25,6 @@ use Rattle.captions.specs.Answers.{Outcome, answer_number, answer_length, outcom
 use Rattle.captions.specs.Captions.{Keys, loaded_for, key_mark, mark_for, other_keys}
 use Rattle.captions.specs.Calls.{wrong_keys, key_tests, other_class, class_tests, pair_tests, blank_tests, blanking_with, blanking}
 use Rattle.captions.specs.Claim.{Sound}
-use Rattle.captions.specs.declared.Answer.TheVariants.{Accepted}
-use Rattle.captions.specs.declared.Verdict.TheVariants.{Pass, Refuse}
 use Rattle.captions.proofs.Tables.{Unmet, end, next, unmet_first, unmet_rest, decided_unmet}
 use Rattle.captions.proofs.KeyMark.{mark_six, mark_bytes}
 use Rattle.captions.proofs.Fitted.{unused_blank}
@@ -130,7 +129,7 @@ module _ (k : Keys) (s : List ℕ) (fits : fit s ≡ true) where
         record {
           sealing = u.sealing;
           checking = u.checking;
-          passes = decided_unmet (pair_tests (edition_of s) (by_paths (key_class s) 0 0 k) k s) Pass Refuse unmet;
+          passes = decided_unmet (pair_tests (edition_of s) (by_paths (key_class s) 0 0 k) k s) (Ok tt) Err unmet;
         }
 
   -- editions 1 and 2 have no mark
@@ -244,16 +243,16 @@ module _ (k : Keys) (b s : List ℕ) (w : ByBlanking k s) (l : length b ≡ leng
       same_is _ _ (not-false _ (rw (w.edition, paths_loaded k (key_class s) right u.sealing_size 0 0) at
       (unmet_first (unmet_rest (classes_passed (edition_of s) (by_paths (key_class s) 0 0 k) k s w.serves.passes)))))
 
-  blanked_again : blanking k b (slots s) (key_class s) (serial s) ≡ outcome (Accepted 0) s
+  blanked_again : blanking k b (slots s) (key_class s) (serial s) ≡ outcome (Ok 0) s
   unfolding blanking blanking_with mark_for
   blanked_again =
       decided_unmet (blank_tests k b (slots s) (key_class s)) _ _ tests
-      ∙ ap (λ (m : List ℕ). outcome (Accepted 0) (blank_sheet (slots s) (key_class s) (serial s) m)) mark_is
-      ∙ ap (outcome (Accepted 0)) (sym (blanked_3 s w.blank.bytes rules w.blank.unused (rw (← w.edition) (blanks s w.blank))))
+      ∙ ap (λ (m : List ℕ). outcome (Ok 0) (blank_sheet (slots s) (key_class s) (serial s) m)) mark_is
+      ∙ ap (outcome (Ok 0)) (sym (blanked_3 s w.blank.bytes rules w.blank.unused (rw (← w.edition) (blanks s w.blank))))
 
   serves_blanking : Gives (blanking k b (slots s) (key_class s) (serial s)) 0 0 s
   unfolding answer_number answer_length
-  serves_blanking = gives (Accepted 0) s blanked_again
+  serves_blanking = gives (Ok 0) s blanked_again
 
 -- ---- a pair of keys for each class: all zeros and all ones
 
@@ -315,7 +314,7 @@ premises =
     }
 
 -- a sheet of two slots that blanking makes, with the pair that serves it
-pub by_blanking : (k : Keys) (t : ℕ) (s : List ℕ) → blanking k (zeros 432) 2 t 0x5a04 ≡ outcome (Accepted 0) s → Bytes k.sealing → Bytes k.checking → ByBlanking k s
+pub by_blanking : (k : Keys) (t : ℕ) (s : List ℕ) → blanking k (zeros 432) 2 t 0x5a04 ≡ outcome (Ok 0) s → Bytes k.sealing → Bytes k.checking → ByBlanking k s
 unfolding outcome answer_number
 by_blanking k t s e a b =
     subst (ByBlanking k) (ap (λ (o : Outcome). o.bytes) e) (premises.blanking_serves k (zeros 432) 2 t 0x5a04 a b (omega arith) (ap (λ (o : Outcome). o.number) e))

@@ -3,6 +3,7 @@ use Prim.Native.Nat.{ℕ}
 use mathlib.Core.Path.{◌≡◌, refl, sym, ap, ◌∙◌}
 use mathlib.Core.List.{List, [], ◌∷◌}
 use lib.Dec.{lit<}
+use Rattle.std.specs.Prelude.{Ok}
 use Rattle.octets.specs.Bytes.{Bytes, none, more, be, number, zeros, same}
 use Rattle.octets.specs.Outcome.{decided}
 use Rattle.octets.proofs.EveryByte.{take_bytes}
@@ -18,7 +19,6 @@ use Rattle.layout.specs.Layout.{slot_count, sheet_size, blank_sheet}
 use Rattle.captions.specs.Answers.{answer_number, answer_length, outcome}
 use Rattle.captions.specs.Captions.{mark_block, key_mark}
 use Rattle.captions.specs.Calls.{wrong_keys, blank_tests, blanking_with}
-use Rattle.captions.specs.declared.Answer.TheVariants.{Accepted}
 use Rattle.demands.specs.Ciphers.{by_paths, blanking_by}
 use Rattle.demands.specs.Witnesses.{rising_pair, PresentMet}
 use Rattle.demands.proofs.Ciphers.{code_blanks}
@@ -45,7 +45,7 @@ mark_128 = refl
 
 -- blanking accepts the pair for t
 Accepts : ℕ → ℕ → Type 0
-Accepts t n = blanking_by 0 (rising_pair n) (zeros 432) 2 t 0x5a04 ≡ outcome (Accepted 0) (blank_sheet 2 t 0x5a04 (key_mark (by_paths t 0 0 (rising_pair n)) 2 t 0x5a04))
+Accepts t n = blanking_by 0 (rising_pair n) (zeros 432) 2 t 0x5a04 ≡ outcome (Ok 0) (blank_sheet 2 t 0x5a04 (key_mark (by_paths t 0 0 (rising_pair n)) 2 t 0x5a04))
 
 accepts_80 : Accepts 21 10
 unfolding Accepts blanking_by blanking_with blank_tests decided wrong_keys sheet_key_length key_bytes same class_known mcrypton_class present_class slot_count sheet_size zeros
@@ -58,8 +58,8 @@ accepts_128 = refl
 met : (t n : ℕ) (m : List ℕ) → key_mark (by_paths t 0 0 (rising_pair n)) 2 t 0x5a04 ≡ m → Accepts t n → PresentMet t n m
 unfolding Accepts answer_number answer_length
 met t n m mark a =
-    let b = sym (code_blanks 0 (rising_pair n) (zeros 432) 2 t 0x5a04) ∙ a ∙ ap (λ (m : List ℕ). outcome (Accepted 0) (blank_sheet 2 t 0x5a04 m)) mark in
-    record { blanked = gives (Accepted 0) _ b; sheet = by_blanking (rising_pair n) t _ b (rising_bytes n).0 (rising_bytes n).1 }
+    let b = sym (code_blanks 0 (rising_pair n) (zeros 432) 2 t 0x5a04) ∙ a ∙ ap (λ (m : List ℕ). outcome (Ok 0) (blank_sheet 2 t 0x5a04 m)) mark in
+    record { blanked = gives (Ok 0) _ b; sheet = by_blanking (rising_pair n) t _ b (rising_bytes n).0 (rising_bytes n).1 }
 
 pub present_met_80 : PresentMet 21 10 (0x48 ∷ 0x66 ∷ 0x69 ∷ 0x8a ∷ 0x92 ∷ 0xf4 ∷ [])
 present_met_80 = met 21 10 _ mark_80 accepts_80

@@ -6,6 +6,7 @@ use mathlib.Core.List.{List, [], ◌∷◌}
 use native.Mathlib.Omega.{arith}
 use lib.Dec.{lit<}
 use lib.ListN.{replicate}
+use Rattle.std.specs.Prelude.{Ok}
 use Rattle.octets.specs.Bytes.{none, more, be, number, zeros, same}
 use Rattle.octets.specs.Outcome.{decided}
 use Rattle.octets.proofs.Zeros.{zeros_bytes}
@@ -22,7 +23,6 @@ use Rattle.layout.specs.Layout.{edition_of, slots, key_class, edition_byte, seri
 use Rattle.captions.specs.Answers.{Outcome, answer_number, answer_length, outcome}
 use Rattle.captions.specs.Captions.{Keys, pair, mark_block, key_mark, mark_for, other_keys}
 use Rattle.captions.specs.Calls.{wrong_keys, other_class, key_tests, class_tests, pair_tests, blank_tests, blanking_with, blanking}
-use Rattle.captions.specs.declared.Answer.TheVariants.{Accepted}
 use Rattle.captions.specs.Runs.{Reply, replies, finally}
 use Rattle.captions.specs.Model.{writes, holds, new_model, page, answered, model_step}
 use Rattle.captions.specs.Turns.{Turn, own, own_calls, EachStranger, none as no_stranger, past, met, turn_model}
@@ -51,26 +51,26 @@ other_mark : key_mark (by_paths 4 0 0 exchanged) 2 4 0x5a04 ≡ 0x3b ∷ 0x5a �
 unfolding exchanged rotate1 rotate sboxes sbox γ π τ by_count forward_words forward4 forward6 forward8 forward start eight_words times register constants register_t last_word round_key encryption_key by_words after_by steps encrypt_block words_of bytes_of encrypt_bytes present_class encrypt_by by_paths xor_bytes shift_left double block_count last_block message_block chain cmac zeros be mark_block key_mark
 other_mark = refl
 
-blanked : blanking first_pair (zeros 432) 2 4 0x5a04 ≡ outcome (Accepted 0) strangers_sheet
+blanked : blanking first_pair (zeros 432) 2 4 0x5a04 ≡ outcome (Ok 0) strangers_sheet
 blanked = sym (code_blanks 0 first_pair (zeros 432) 2 4 0x5a04) ∙ made
   where
-    made : blanking_by 0 first_pair (zeros 432) 2 4 0x5a04 ≡ outcome (Accepted 0) strangers_sheet
+    made : blanking_by 0 first_pair (zeros 432) 2 4 0x5a04 ≡ outcome (Ok 0) strangers_sheet
     made = unfold blanking_by blanking_with blank_tests decided wrong_keys sheet_key_length key_bytes same class_known mcrypton_class slot_count sheet_size zeros in rw own_mark
 
 number_1 : key_refusal (pair (zeros 7) (replicate 7 1)) strangers_sheet ≡ 1
-unfolding key_refusal pair_tests key_tests decided answer_number wrong_keys sheet_key_length zeros
+unfolding key_refusal pair_tests key_tests decided wrong_keys sheet_key_length zeros
 number_1 = refl
 
 number_2 : key_refusal (pair (zeros 8) (zeros 8)) strangers_sheet ≡ 2
-unfolding key_refusal pair_tests key_tests decided answer_number wrong_keys sheet_key_length same zeros
+unfolding key_refusal pair_tests key_tests decided wrong_keys sheet_key_length same zeros
 number_2 = refl
 
 number_5 : key_refusal (pair (zeros 12) (replicate 12 1)) strangers_sheet ≡ 5
-unfolding key_refusal pair_tests key_tests class_tests decided answer_number wrong_keys other_class sheet_key_length key_bytes same zeros be number key_class first_eight serial_header blank_header blank_slots blank_sheet
+unfolding key_refusal pair_tests key_tests class_tests decided wrong_keys other_class sheet_key_length key_bytes same zeros be number key_class first_eight serial_header blank_header blank_slots blank_sheet
 number_5 = refl
 
 number_14 : key_refusal (pair (replicate 8 1) (zeros 8)) strangers_sheet ≡ 14
-unfolding key_refusal pair_tests key_tests class_tests decided answer_number wrong_keys other_class other_keys mark_for stored_mark serial sheet_key_length key_bytes same zeros be number slots key_class edition_byte edition_of first_eight serial_header blank_header blank_slots blank_sheet exchanged
+unfolding key_refusal pair_tests key_tests class_tests decided wrong_keys other_class other_keys mark_for stored_mark serial sheet_key_length key_bytes same zeros be number slots key_class edition_byte edition_of first_eight serial_header blank_header blank_slots blank_sheet exchanged
 number_14 = rw other_mark
 
 is_not_0 : {n : ℕ} (m : ℕ) → n ≡ m → m ≢ 0 → n ≢ 0
@@ -106,7 +106,7 @@ strangers_met : StrangersMet strangers_sheet
 unfolding own_calls exchanged answer_number answer_length
 strangers_met =
     record {
-      blanked = gives (Accepted 0) strangers_sheet blanked;
+      blanked = gives (Ok 0) strangers_sheet blanked;
       sheet = by_blanking first_pair 4 strangers_sheet blanked (zeros_bytes 8) (ones_bytes 8);
       captions = Claim.write (more (lit< tt) none) (Claim.clear (Claim.write (more (lit< tt) none) Claim.none));
       each = each;

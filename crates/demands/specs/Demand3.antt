@@ -1,12 +1,11 @@
 -- Demand 3: what holds of every list of writes, clears and strangers' writes from a blank sheet, and of every key of mCrypton.
-use Rattle.std.specs.Prelude.{ℕ, ◌-◌, ◌<◌, ◌≡◌, List, ◌++◌, length}
+use Rattle.std.specs.Prelude.{ℕ, ◌-◌, ◌<◌, ◌≡◌, List, ◌++◌, length, Ok}
 use Rattle.octets.specs.Bytes.{zeros}
 use Rattle.octets.specs.Block.{ByteBlock, Invertible}
 use Rattle.schedule.specs.Schedule.{Key}
 use Rattle.mcrypton.specs.Claims.{FirstHalf}
 use Rattle.layout.specs.Layout.{edition_of, slots, last_write}
 use Rattle.captions.specs.Answers.{first_of}
-use Rattle.captions.specs.declared.Verdict.TheVariants.{Pass}
 use Rattle.captions.specs.Captions.{Keys, Ciphers}
 use Rattle.captions.specs.Calls.{pair_tests, writing, clearing}
 use Rattle.captions.specs.Runs.{replies, finally, HandedOn}
@@ -66,7 +65,7 @@ pub record Demand3 : Type 0 where
       → SecondHalf p p' q k s turns
   -- the same of writes and clears, whatever cipher seals and checks: E and D undo each other on blocks of 8 bytes, and M makes blocks of blocks
   pub any_cipher : (x : Ciphers) (k : Keys) (s : List ℕ) (calls : List Call) → Invertible x.E x.D → ((b : List ℕ) → ByteBlock b → ByteBlock (x.M b)) → BlankSheet s
-      → first_of (pair_tests (edition_of s) x k s) ≡ Pass → Captions calls → FollowsBook x k s calls
+      → first_of (pair_tests (edition_of s) x k s) ≡ Ok tt → Captions calls → FollowsBook x k s calls
   pub first : (k : List ℕ) → Key k → FirstHalf k
   pub premises : Premises
   pub witnesses : Witnesses

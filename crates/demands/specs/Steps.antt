@@ -1,12 +1,11 @@
 -- What demands 2 and 3 speak of: an outcome in plain values, the calls of a list one by one, and the sheet and the pair of keys that it begins with.
-use Rattle.std.specs.Prelude.{ℕ, ◌≡◌, ◌≢◌, true, List}
+use Rattle.std.specs.Prelude.{ℕ, ◌≡◌, ◌≢◌, true, List, Ok}
 use Rattle.octets.specs.Bytes.{Bytes}
 use Rattle.octets.specs.Outcome.{decided}
 use Rattle.layout.specs.Layout.{edition_of, key_class, last_write, fit}
-use Rattle.captions.specs.Answers.{Outcome, answer_number, first_of}
+use Rattle.captions.specs.Answers.{Outcome, refusal_number, first_of}
 use Rattle.captions.specs.Captions.{Keys}
 use Rattle.captions.specs.Calls.{pair_tests, clearing}
-use Rattle.captions.specs.declared.Verdict.TheVariants.{Pass}
 use Rattle.captions.specs.Runs.{Reply}
 use Rattle.captions.specs.Model.{Call, writes, clears}
 use Rattle.captions.specs.Turns.{Turn, own, stranger}
@@ -28,7 +27,7 @@ sheet_step p k (clears i) s = stepped (clearing s i)
 
 -- the first of 1, 2, 5 and 14 that the keys meet with s, or 0
 unfoldable pub key_refusal : Keys → List ℕ → ℕ
-key_refusal k s = decided (pair_tests (edition_of s) (by_paths (key_class s) 0 0 k) k s) 0 answer_number
+key_refusal k s = decided (pair_tests (edition_of s) (by_paths (key_class s) 0 0 k) k s) 0 refusal_number
 
 -- the same with strangers' writes among the calls
 unfoldable pub turn_step : ℕ → Keys → Turn → List ℕ → Reply × List ℕ
@@ -46,7 +45,7 @@ pub record Serves (k : Keys) (s : List ℕ) : Type 0 where
   pub sealing : Bytes k.sealing
   pub checking : Bytes k.checking
   -- and meets none of 1, 2, 5 and 14 with s
-  pub passes : first_of (pair_tests (edition_of s) (by_paths (key_class s) 0 0 k) k s) ≡ Pass
+  pub passes : first_of (pair_tests (edition_of s) (by_paths (key_class s) 0 0 k) k s) ≡ Ok tt
 
 -- a blank sheet: it meets the layout and has w = 0
 pub record BlankSheet (s : List ℕ) : Type 0 where

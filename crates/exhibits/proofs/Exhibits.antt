@@ -5,6 +5,7 @@ use mathlib.Core.Bool.{not, ◌||◌}
 use mathlib.Core.List.{List, [], ◌∷◌, ◌++◌}
 use native.Mathlib.Omega.{arith}
 use lib.ListN.{drop, replicate}
+use Rattle.std.specs.Prelude.{Ok, Err}
 use Rattle.octets.specs.Bytes.{if◌then◌otherwise◌, be, number, zeros, put, all_zero, same, all_below}
 use Rattle.octets.specs.Outcome.{◌gives◌, decided}
 use Rattle.text.specs.Grammar.{forms, inside, after, some, meets, well_formed}
@@ -13,16 +14,14 @@ use Rattle.octets.specs.BlockCalls.{block_outcome, block_tests, block_call}
 use Rattle.mcrypton.specs.Calls.{encrypting, decrypting}
 use Rattle.mcrypton.proofs.Refusals.{block_refusals}
 use Rattle.chip_bench.specs.Calls.{bench_outcome, bench_tests, benching}
-use Rattle.chip_bench.specs.declared.BenchAnswer.TheVariants.{Accepted as BenchAccepted}
-use Rattle.modes.specs.Answers.{mac_number, mac_length, mac_outcome, authenticating}
-use Rattle.modes.specs.declared.MacAnswer.TheVariants.{Accepted as MacAccepted}
+use Rattle.modes.specs.Answers.{authenticating}
 use Rattle.cipher.specs.Key.{mcrypton_class, class_known, key_bytes, sheet_key_length}
 use Rattle.layout.specs.Layout.{edition1, edition_of, slots, key_class, edition_byte, last_write, rule1, sheet_size, mark_at, field_at, slot_count, mark, field, mark_number, mark_length, mark_check, written_mark, blank_slot, fit_slot, fit_in, fit, store_slot, store_last, first_eight, serial_header, blank_header, blank_slots, blank_sheet}
 use Rattle.captions.specs.Answers.{Outcome, outcome, answer_number, answer_length, change_point, answer_point}
-use Rattle.faults.specs.Faults.{zeros_before, first_set, faults, first_in, first_fault, header_point, fault_point}
+use Rattle.faults.specs.Faults.{zeros_before, first_set, faults, first_in, first_fault, fault_of, header_point, fault_point}
 use Rattle.captions.specs.Captions.{pair, new_mark, other_keys, slot_mark, sealed_field, check_of, opened_field, stored_as, written, opened, altered, change, cleared}
 use Rattle.captions.specs.Calls.{wrong_keys, other_class, key_tests, class_tests, sheet_tests, caption_tests, write_tests, window_tests, open_tests, read_tests, clear_tests, blank_tests, writing_with, clearing_with, reading_with, blanking_with, writing, clearing, reading, blanking}
-use Rattle.captions.specs.declared.Answer.TheVariants.{Accepted, Altered}
+use Rattle.captions.specs.declared.Refusal.TheVariants.{Altered}
 use Rattle.captions.specs.declared.Change.TheVariants.{Check, Byte}
 use Rattle.terms.specs.Terms.{count, opening, closing, fit_terms, on_show}
 use Rattle.terms.proofs.Meaning.{reflects_terms}
@@ -49,18 +48,18 @@ not_decrypted out = refl
 
 benched : benching checking_key 1 wanted (zeros 8) ≡ record { number = 0; len = 0; bytes = leading }
 unfolding benching bench_tests bench_outcome decided key_length zeros
-benched = ap (bench_outcome BenchAccepted) block_leads
+benched = ap (bench_outcome (Ok tt)) block_leads
 
 not_benched : benching checking_key 13 wanted (zeros 8) ≡ record { number = 13; len = 0; bytes = zeros 8 }
 unfolding benching bench_tests bench_outcome decided key_length zeros
 not_benched = refl
 
 authenticated : authenticating sealing_key abc (zeros 8) ≡ record { number = 0; len = 0; bytes = abc_check }
-unfolding authenticating mac_outcome mac_number mac_length decided key_length zeros
-authenticated = ap (mac_outcome MacAccepted) text_checked
+unfolding authenticating block_outcome decided key_length zeros
+authenticated = ap (block_outcome (Ok tt)) text_checked
 
 not_authenticated : authenticating sealing_key abc (zeros 7) ≡ record { number = 3; len = 0; bytes = zeros 7 }
-unfolding authenticating mac_outcome mac_number mac_length decided key_length zeros
+unfolding authenticating block_outcome decided key_length zeros
 not_authenticated = refl
 
 -- ---- calls on a sheet
@@ -71,7 +70,7 @@ plain n l bytes = record { number = n; len = l; points = record { rule = 0; slot
 
 blanked : blanking keys (replicate 224 7) 1 4 258 ≡ plain 0 0 new_sheet
 unfolding blanking blanking_with blank_tests outcome answer_number answer_length answer_point class_known mcrypton_class slot_count sheet_size decided wrong_keys sheet_key_length key_bytes same zeros be first_eight serial_header blank_header blank_slots blank_sheet
-blanked = ap (λ (m : List ℕ). outcome (Accepted 0) (blank_sheet 1 4 258 m)) mark_made
+blanked = ap (λ (m : List ℕ). outcome (Ok 0) (blank_sheet 1 4 258 m)) mark_made
 
 not_blanked : (s : List ℕ) → blanking (pair sealing_key sealing_key) s 1 4 258 ≡ plain 2 0 s
 unfolding blanking blanking_with blank_tests outcome answer_number answer_length answer_point class_known mcrypton_class decided wrong_keys sheet_key_length same
@@ -83,10 +82,10 @@ made s w f c = store_last (store_slot edition1 s 0 (new_mark w 3 c) f) w
 
 -- a write of "abc" to s, with number w, is told by the field and the check that it comes to
 module _ (s : List ℕ) (w : ℕ) (f c : List ℕ)
-    (by : writing keys s 0 abc ≡ outcome (Accepted 0) (made s w (sealed_field loaded_keys 0 w 0 abc) (check_of loaded_keys w 0 3 (sealed_field loaded_keys 0 w 0 abc))))
+    (by : writing keys s 0 abc ≡ outcome (Ok 0) (made s w (sealed_field loaded_keys 0 w 0 abc) (check_of loaded_keys w 0 3 (sealed_field loaded_keys 0 w 0 abc))))
     (sealed : sealed_field loaded_keys 0 w 0 abc ≡ f) (checked : check_of loaded_keys w 0 3 f ≡ c) where
-  written_as : writing keys s 0 abc ≡ outcome (Accepted 0) (made s w f c)
-  written_as = by ∙ ap (λ (g : List ℕ). outcome (Accepted 0) (made s w g (check_of loaded_keys w 0 3 g))) sealed ∙ ap (λ (d : List ℕ). outcome (Accepted 0) (made s w f d)) checked
+  written_as : writing keys s 0 abc ≡ outcome (Ok 0) (made s w f c)
+  written_as = by ∙ ap (λ (g : List ℕ). outcome (Ok 0) (made s w g (check_of loaded_keys w 0 3 g))) sealed ∙ ap (λ (d : List ℕ). outcome (Ok 0) (made s w f d)) checked
 
 written_whole : writing keys blank_one 0 abc ≡ plain 0 0 written_one
 unfolding forms inside after some meets well_formed made writing writing_with write_tests caption_tests decided wrong_keys other_class other_keys sheet_key_length key_bytes same key_tests class_tests sheet_tests number zeros be all_zero all_below slots key_class edition_byte last_write rule1 mcrypton_class edition_of sheet_size mark_at field_at slot_count mark field mark_number mark_length written_mark blank_slot fit_slot fit_in written stored_as slot_mark new_mark put store_last store_slot outcome answer_number answer_length answer_point
@@ -101,11 +100,11 @@ unfolding forms inside after some meets well_formed writing writing_with write_t
 worn_whole = refl
 
 short_sheet : writing keys (1 ∷ 2 ∷ 3 ∷ []) 0 abc ≡ record { number = 4; len = 0; points = record { rule = 1; slot = 0; place = 0 }; bytes = 1 ∷ 2 ∷ 3 ∷ [] }
-unfolding writing writing_with write_tests key_tests sheet_tests decided wrong_keys sheet_key_length same fit_in faults first_in first_fault header_point fault_point outcome answer_number answer_length answer_point
+unfolding writing writing_with write_tests key_tests sheet_tests decided wrong_keys sheet_key_length same fit_in faults first_in first_fault fault_of header_point fault_point outcome answer_number answer_length answer_point
 short_sheet = refl
 
 ten_short : writing ten_bytes (1 ∷ 2 ∷ 3 ∷ []) 0 abc ≡ record { number = 4; len = 0; points = record { rule = 1; slot = 0; place = 0 }; bytes = 1 ∷ 2 ∷ 3 ∷ [] }
-unfolding writing writing_with write_tests key_tests sheet_tests decided wrong_keys sheet_key_length same fit_in faults first_in first_fault header_point fault_point outcome answer_number answer_length answer_point zeros
+unfolding writing writing_with write_tests key_tests sheet_tests decided wrong_keys sheet_key_length same fit_in faults first_in first_fault fault_of header_point fault_point outcome answer_number answer_length answer_point zeros
 ten_short = refl
 
 ten_bytes_lem : writing ten_bytes blank_one 0 abc ≡ plain 5 0 blank_one
@@ -113,7 +112,7 @@ unfolding writing writing_with write_tests caption_tests decided wrong_keys othe
 ten_bytes_lem = refl
 
 present_old : reading ten_bytes (0 ∷ 1 ∷ 21 ∷ 1 ∷ zeros 212) 0 (replicate 192 7) ≡ record { number = 4; len = 0; points = record { rule = 3; slot = 0; place = 0 }; bytes = zeros 192 }
-unfolding reading reading_with read_tests open_tests window_tests key_tests sheet_tests decided wrong_keys sheet_key_length same number zeros all_zero all_below slots key_class edition_byte rule1 mcrypton_class edition_of sheet_size slot_count fit_in faults first_in first_fault header_point fault_point outcome answer_number answer_length answer_point
+unfolding reading reading_with read_tests open_tests window_tests key_tests sheet_tests decided wrong_keys sheet_key_length same number zeros all_zero all_below slots key_class edition_byte rule1 mcrypton_class edition_of sheet_size slot_count fit_in faults first_in first_fault fault_of header_point fault_point outcome answer_number answer_length answer_point
 present_old = refl
 
 not_written : writing keys blank_one 0 (zeros 193) ≡ plain 7 0 blank_one
@@ -151,7 +150,7 @@ not_cleared = refl
 -- what a read finds in slot 0 of s, whose mark has number 1, the length n and the check c, and whose field is that of "abc"
 module _ (s : List ℕ) (n : ℕ) (c d : List ℕ)
     (by : reading keys s 0 (replicate 192 7)
-    ≡ decided ((altered loaded_keys edition1 s 0 gives Altered 0 (change loaded_keys edition1 s 0)) ∷ []) (outcome (Accepted n) (opened loaded_keys edition1 s 0)) (λ a. outcome a (zeros 192)))
+    ≡ decided ((altered loaded_keys edition1 s 0 gives Altered 0 (change loaded_keys edition1 s 0)) ∷ []) (outcome (Ok n) (opened loaded_keys edition1 s 0)) (λ r. outcome (Err r) (zeros 192)))
     (opens : opened loaded_keys edition1 s 0 ≡ opened_field loaded_keys 0 1 0 abc_field)
     (alters : altered loaded_keys edition1 s 0 ≡ not (same (check_of loaded_keys 1 0 n abc_field) c) || not (all_zero (drop n (opened loaded_keys edition1 s 0))))
     (changes : change loaded_keys edition1 s 0 ≡ (if same (check_of loaded_keys 1 0 n abc_field) c then Byte (first_set (opened loaded_keys edition1 s 0) n (192 - n)) otherwise Check))
@@ -159,7 +158,7 @@ module _ (s : List ℕ) (n : ℕ) (c d : List ℕ)
   read_as : reading keys s 0 (replicate 192 7)
       ≡ decided
       ((not (same d c) || not (all_zero (drop n (abc ++ zeros 189))) gives Altered 0 (if same d c then Byte (first_set (abc ++ zeros 189) n (192 - n)) otherwise Check)) ∷ [])
-      (outcome (Accepted n) (abc ++ zeros 189)) (λ a. outcome a (zeros 192))
+      (outcome (Ok n) (abc ++ zeros 189)) (λ r. outcome (Err r) (zeros 192))
   read_as = by ∙ rw (alters, changes, opens, field_opened, checked)
 
 read_whole : reading keys written_one 0 (replicate 192 7) ≡ plain 0 3 (abc ++ zeros 189)

@@ -3,9 +3,11 @@ use Prim.Native.Nat.{ℕ, zero, suc, ◌+◌, ◌-◌, ◌*◌, ◌/◌, ◌%◌
 use mathlib.Core.Path.{◌≡◌, refl, sym, ap, ◌∙◌, subst}
 use mathlib.Core.Bool.{Bool, true, false, not, ◌&&◌, ◌||◌, false≢true}
 use mathlib.Core.List.{List, ◌∷◌}
-use mathlib.Core.Logic.{◌⊎◌, inl, inr}
+use mathlib.Core.Logic.{◌⊎◌}
 use native.Mathlib.Omega.{arith}
 use native.Mathlib.Decide.{dec_le}
+use Rattle.std.specs.Prelude.{Option, None, Some}
+use Rattle.std.specs.Option.{unwrap_or}
 use borrow.Author.Tests.{eq-eqb, ne_eqb, eqb-true, lt-ltb, le-ltb, ltb-true, ltb-false, not-true, not-false}
 use lib.Dec.{eqb, ltb}
 use lib.ListN.{length}
@@ -14,22 +16,21 @@ use Rattle.octets.specs.Outcome.{Row, ◌gives◌}
 use Rattle.octets.proofs.Bool.{and_left, and_right, and_both}
 use Rattle.octets.proofs.Clauses.{Reflects, reflects_not, reflects_and, reflects_or, reflects_eqb, reflects_leb, reflects_yes}
 use Rattle.cipher.specs.Key.{mcrypton_class, class_known}
-use Rattle.layout.specs.Layout.{Edition, edition_of, rule1, rule2, rule3, slots, key_class, edition_byte, last_write, slot_count, sheet_size, mark_number, mark_length, mark, blank_slot, fit_slot}
-use Rattle.layout.specs.Rules.{MeetsLayout}
+use Rattle.layout.specs.Layout.{Edition, edition_of, rule1, rule2, rule3, slots, key_class, edition_byte, last_write, slot_count, sheet_size, mark_number, mark_length, mark, blank_slot, fit_slot, fit}
 use Rattle.layout.proofs.Header.{edition_cases}
 use Rattle.layout.proofs.Fits.{Fits, fit_facts, fits_fit, length_mark}
-use Rattle.layout.proofs.Meaning.{reflects_class, reflects_fit}
-use Rattle.faults.specs.Faults.{Point, fault_point, header_point, mark_point, first_set, wrong_number, edition_known, slot_faults, faults, first_in, first_fault}
+use Rattle.layout.proofs.Meaning.{reflects_class}
+use Rattle.faults.specs.Faults.{Point, fault_point, header_point, mark_point, first_set, wrong_number, edition_known, slot_faults, faults, first_fault, fault_of}
 use Rattle.faults.specs.First.{Breaks, order, short, count, class, edition, header_byte, size, number, caption, mark_byte}
 use Rattle.faults.specs.declared.HeaderRule.{HeaderRule}
 use Rattle.faults.specs.declared.HeaderRule.TheVariants.{Short, Count, Class, Edition as EditionRule, Zero as HeaderZero, Length as SheetLength}
 use Rattle.faults.specs.declared.MarkRule.{MarkRule}
 use Rattle.faults.specs.declared.MarkRule.TheVariants.{Number, Length, Zero}
 use Rattle.faults.specs.declared.Fault.{Fault}
-use Rattle.faults.specs.declared.Fault.TheVariants.{Nothing, Header, Mark}
+use Rattle.faults.specs.declared.Fault.TheVariants.{Header, Mark}
 use Rattle.faults.proofs.Places.{set_low, set_high, set_below, set_there, set_some, set_least}
 use Rattle.faults.proofs.Marks.{wrong_length, wrong_zeros, rows_fit, fit_number, fit_length, fit_zeros}
-use Rattle.faults.proofs.Table.{Ordered, end, row, Applies, here, there, Quiet, quiet_nothing, found, lowest, nothing_quiet}
+use Rattle.faults.proofs.Table.{Ordered, end, row, Applies, here, there, Quiet, quiet_none, none_quiet, found, Lowest, lowest}
 
 -- a fault of s, with the numbers that point at it
 abbrev Broken : List ℕ → Fault → Type 0
@@ -272,60 +273,43 @@ module _ (s : List ℕ) where
 
 -- ---- the record
 
--- nothing is no broken rule
-unfoldable Some : Fault → Type 0
-Some Nothing = ⊥
-Some (Header r) = Unit {0}
-Some (Mark i r) = Unit {0}
-
 module _ (s : List ℕ) where
-  some_fault : (f : Fault) (p : Point) → Breaks s f p → Some f
-  unfolding Some
-  some_fault f p (short h) = tt
-  some_fault f p (count h) = tt
-  some_fault f p (class h) = tt
-  some_fault f p (edition h) = tt
-  some_fault f p (header_byte j e l h d) = tt
-  some_fault f p (size h) = tt
-  some_fault f p (number i l b h) = tt
-  some_fault f p (caption i l h) = tt
-  some_fault f p (mark_byte i j l a h d) = tt
-
-  nothing_broken : Broken s Nothing → ⊥
-  unfolding Some
-  nothing_broken b = some_fault Nothing (fault_point Nothing) b
-
-  low : (f : Fault) (p : Point) → Breaks s f p → Broken s (first_fault s) × (order (first_fault s) ≤ order f)
+  low : (f : Fault) (p : Point) → Breaks s f p → Lowest (Broken s) f (first_fault s)
   unfolding first_fault
   low f p b =
       let c = covered s f p b in
       let r = lowest (faults s) (ordered s) c.applies in
-      (r.0, omega (arith, r.1, c.low))
+      record { fault = r.fault; is = r.is; holds = r.holds; low = omega (arith, r.low, c.low) }
 
-  pub is_broken : (first_fault s ≡ Nothing → ⊥) → Breaks s (first_fault s) (fault_point (first_fault s))
+  pub is_broken : (f : Fault) → first_fault s ≡ Some f → Breaks s f (fault_point f)
   unfolding first_fault
-  is_broken n = go (found (faults s) (ordered s))
+  is_broken = found (faults s) (ordered s)
+
+  pub not_none : (f : Fault) (p : Point) → Breaks s f p → first_fault s ≡ None → ⊥
+  not_none f p b e = let l = low f p b in let q = l.is in cc
+
+  pub lowest_first : (f : Fault) (p : Point) → Breaks s f p → (g : Fault) → first_fault s ≡ Some g → order g ≤ order f
+  lowest_first f p b g e = let l = low f p b in let q = l.is in let r : l.fault ≡ g = cc in subst (λ (h : Fault). order h ≤ order f) r l.low
+
+  pub fit_none : fit s ≡ true → first_fault s ≡ None
+  unfolding first_fault
+  fit_none e = quiet_none (fits_quiet s (fit_facts s e))
+
+  pub none_fit : first_fault s ≡ None → fit s ≡ true
+  unfolding first_fault
+  none_fit e = fits_fit s (quiet_fits s (none_quiet (faults s) e))
+
+  -- the fault of a sheet that isn't fit is its first
+  pub unfit_some : fit s ≡ false → first_fault s ≡ Some (fault_of s)
+  unfolding fault_of
+  unfit_some u = go (first_fault s) refl
     where
-      go : (first_in (faults s) ≡ Nothing) ⊎ Broken s (first_in (faults s)) → Broken s (first_in (faults s))
-      go (inl e) = absurd (n e)
-      go (inr b) = b
+      go : (o : Option Fault) → first_fault s ≡ o → o ≡ Some (unwrap_or o (Header Short))
+      go None e = absurd (false≢true (sym u ∙ none_fit e))
+      go (Some f) e = refl
 
-  pub not_nothing : (f : Fault) (p : Point) → Breaks s f p → first_fault s ≡ Nothing → ⊥
-  not_nothing f p b e = nothing_broken (subst (Broken s) e (low f p b).0)
-
-  pub lowest_first : (f : Fault) (p : Point) → Breaks s f p → order (first_fault s) ≤ order f
-  lowest_first f p b = (low f p b).1
-
-  pub fit_nothing : MeetsLayout s → first_fault s ≡ Nothing
-  unfolding first_fault
-  fit_nothing m = quiet_nothing (fits_quiet s (fit_facts s (reflects_yes (reflects_fit s) m)))
-
-  pub nothing_fit : first_fault s ≡ Nothing → MeetsLayout s
-  unfolding first_fault
-  nothing_fit e = (reflects_fit s).holds (fits_fit s (quiet_fits s (nothing_quiet nothing_broken (faults s) (ordered s) e)))
-
-  pub only_first : (f : Fault) (p : Point) → Breaks s f p → ((g : Fault) (q : Point) → Breaks s g q → order f ≤ order g) → first_fault s ≡ f
+  pub only_first : (f : Fault) (p : Point) → Breaks s f p → ((g : Fault) (q : Point) → Breaks s g q → order f ≤ order g) → first_fault s ≡ Some f
   only_first f p b h =
       let l = low f p b in
-      let q : order (first_fault s) ≡ order f = omega (arith, l.1, h (first_fault s) (fault_point (first_fault s)) l.0) in
-      sym (at_order s (first_fault s) (fault_point (first_fault s)) l.0) ∙ ap fault_at q ∙ at_order s f p b
+      let q : order l.fault ≡ order f = omega (arith, l.low, h l.fault (fault_point l.fault) l.holds) in
+      l.is ∙ ap Some (sym (at_order s l.fault (fault_point l.fault) l.holds) ∙ ap fault_at q ∙ at_order s f p b)

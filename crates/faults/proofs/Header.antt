@@ -4,8 +4,8 @@ use mathlib.Core.Path.{◌≡◌, refl, sym, ap, ◌∙◌}
 use mathlib.Core.Bool.{Bool, true, false, not, ◌&&◌}
 use mathlib.Core.List.{List}
 use native.Mathlib.Nat.{sub-zero}
-use native.Mathlib.Omega.{arith}
-use borrow.Author.Tests.{eq-eqb, ne_eqb, lt-ltb, le-ltb}
+use Rattle.std.specs.Prelude.{Option, None, Some}
+use borrow.Author.Tests.{lt-ltb, le-ltb}
 use lib.Dec.{eqb}
 use lib.ListN.{length, get_or}
 use Rattle.octets.specs.Bytes.{if◌then◌otherwise◌, number, part, all_zero}
@@ -17,22 +17,9 @@ use Rattle.faults.specs.Inner.{zero_place, slots_fault, size_fault}
 use Rattle.faults.specs.declared.HeaderRule.TheVariants.{Short, Count, Class, Edition, Zero, Length}
 use Rattle.faults.specs.declared.Fault.{Fault}
 use Rattle.faults.specs.declared.Fault.TheVariants.{Header}
-use Rattle.faults.proofs.Places.{set_below}
-
-pub known_one : (v : ℕ) → v ≡ 1 → true ≡ edition_known v
-unfolding edition_known
-known_one v e = rw (eq-eqb v 1 e)
-
-pub known_two : (v : ℕ) → (v ≡ 1 → ⊥) → v ≡ 2 → true ≡ edition_known v
-unfolding edition_known
-known_two v n e = rw (ne_eqb v 1 n, eq-eqb v 2 e)
-
-pub known_three : (v : ℕ) → (v ≡ 1 → ⊥) → (v ≡ 2 → ⊥) → eqb v 3 ≡ edition_known v
-unfolding edition_known
-known_three v n m = rw (ne_eqb v 1 n, ne_eqb v 2 m)
 
 module _ (s : List ℕ) where
-  pub fault_short : length s < 8 → Header Short ≡ first_fault s
+  pub fault_short : length s < 8 → Some (Header Short) ≡ first_fault s
   unfolding first_fault first_in faults decided
   fault_short h = rw (lt-ltb (length s) 8 h)
 
@@ -42,12 +29,12 @@ module _ (s : List ℕ) where
     unfolding slots
     count_is = ap slot_count (sym en) ∙ sym er
 
-    pub fault_count : r ≡ false → Header Count ≡ first_fault s
+    pub fault_count : r ≡ false → Some (Header Count) ≡ first_fault s
     unfolding first_fault first_in faults decided
     fault_count t = rw (le-ltb (length s) 8 l, count_is, t)
 
     module _ (tr : r ≡ true) (k : Bool) (ek : k ≡ (edition_of s).classes (key_class s)) where
-      pub fault_class : k ≡ false → Header Class ≡ first_fault s
+      pub fault_class : k ≡ false → Some (Header Class) ≡ first_fault s
       unfolding first_fault first_in faults decided
       fault_class t = rw (le-ltb (length s) 8 l, count_is, tr, ← ek, t)
 
@@ -55,45 +42,45 @@ module _ (s : List ℕ) where
         edition_is : edition_known (edition_byte s) ≡ q
         edition_is = ap edition_known (sym (edition_read s v l ev)) ∙ sym eq
 
-        pub fault_edition : q ≡ false → Header Edition ≡ first_fault s
+        pub fault_edition : q ≡ false → Some (Header Edition) ≡ first_fault s
         unfolding first_fault first_in faults decided
         fault_edition t = rw (le-ltb (length s) 8 l, count_is, tr, ← ek, tk, edition_is, t)
 
         -- z is what was found of the zero bytes
-        module _ (tq : q ≡ true) (z : ℕ) (ez : z ≡ zero_place s) where
-          pub fault_zero : z < 16 → Header (Zero z) ≡ first_fault s
+        module _ (tq : q ≡ true) (z : Option ℕ) (ez : z ≡ zero_place s) where
+          pub fault_zero : (j : ℕ) → z ≡ Some j → Some (Header (Zero j)) ≡ first_fault s
           unfolding first_fault first_in faults decided zero_place
-          fault_zero h =
+          fault_zero j h =
               rw (le-ltb (length s) 8 l, count_is, tr, ← ek, tk, edition_is, tq)
-              (go (eqb (edition_byte s) 2 && not (all_zero (part s 10 6))) ez _)
+              (go (eqb (edition_byte s) 2 && not (all_zero (part s 10 6))) (sym h ∙ ez) _)
             where
-              go : (b : Bool) → z ≡ (if b then first_set s 10 6 otherwise 16) → (rest : Fault) → Header (Zero z) ≡ (if b then Header (Zero (first_set s 10 6)) otherwise rest)
-              go true e rest = ap (λ (j : ℕ). Header (Zero j)) e
-              go false e rest = absurd (omega (arith, e))
+              go : (b : Bool) → Some j ≡ (if b then Some (first_set s 10 6) otherwise None) → (rest : Option Fault)
+                  → Some (Header (Zero j)) ≡ (if b then Some (Header (Zero (first_set s 10 6))) otherwise rest)
+              go true e rest = cc
+              go false e rest = cc
 
-          pub fault_rest : 16 ≤ z → (x : Fault) → x ≡ size_fault s → x ≡ first_fault s
+          pub fault_rest : z ≡ None → (x : Option Fault) → x ≡ size_fault s → x ≡ first_fault s
           unfolding first_fault first_in faults decided zero_place size_fault slots_fault
           fault_rest g x e =
               e
-              ∙ rw (le-ltb (length s) 8 l, count_is, tr, ← ek, tk, edition_is, tq, none (eqb (edition_byte s) 2) (all_zero (part s 10 6)) refl ez, sub-zero)
+              ∙ rw (le-ltb (length s) 8 l, count_is, tr, ← ek, tk, edition_is, tq, none (eqb (edition_byte s) 2 && not (all_zero (part s 10 6))) (sym g ∙ ez), sub-zero)
               (go (eqb (length s) (sheet_size (edition_of s).header (slots s))) _ _)
             where
-              none : (a b : Bool) → all_zero (part s 10 6) ≡ b → z ≡ (if a && not b then first_set s 10 6 otherwise 16) → a && not b ≡ false
-              none false b u q = refl
-              none true true u q = refl
-              none true false u q = absurd (omega (arith, q, set_below s 10 6 u))
+              none : (b : Bool) → None ≡ (if b then Some (first_set s 10 6) otherwise None) → b ≡ false
+              none false q = refl
+              none true q = cc
 
-              go : (b : Bool) (y n : Fault) → (if b then y otherwise n) ≡ (if not b then n otherwise y)
+              go : (b : Bool) (y n : Option Fault) → (if b then y otherwise n) ≡ (if not b then n otherwise y)
               go true y n = refl
               go false y n = refl
 
 -- ---- the length: r is what was found of it
 
 module _ (s : List ℕ) (r : Bool) (e : r ≡ slot_count (slots s) && eqb (length s) (sheet_size (edition_of s).header (slots s))) where
-  pub size_wrong : r ≡ false → Header Length ≡ size_fault s
+  pub size_wrong : r ≡ false → Some (Header Length) ≡ size_fault s
   unfolding size_fault
   size_wrong t = rw (← e, t)
 
-  pub size_right : r ≡ true → (x : Fault) → x ≡ slots_fault s 0 → x ≡ size_fault s
+  pub size_right : r ≡ true → (x : Option Fault) → x ≡ slots_fault s 0 → x ≡ size_fault s
   unfolding size_fault
   size_right t x f = f ∙ rw (← e, t)

@@ -9,14 +9,14 @@ use Rattle.octets.specs.Outcome.{decided}
 use Rattle.cipher.specs.Key.{mcrypton_class, present_class, class_known}
 use Rattle.layout.specs.Layout.{edition_of, slots, key_class, edition_byte, last_write, slot_count, sheet_size, mark_at, field_at, mark_number, mark_length, mark, field, blank_slot}
 use Rattle.octets.specs.Clauses.{OneOf}
-use Rattle.faults.specs.Faults.{zeros_before, first_set, edition_known, wrong_number, slot_faults, faults, first_in, first_fault, header_point, mark_point, fault_point}
+use Rattle.faults.specs.Faults.{zeros_before, first_set, edition_known, wrong_number, slot_faults, faults, first_in, first_fault, header_point, mark_point, fault_point, first_point}
 use Rattle.faults.specs.First.{order, short, count, class, edition, header_byte, size, number, caption, mark_byte, Suffices, FaultCases, FirstFault}
-use Rattle.octets.proofs.Clauses.{reflects_yes}
+use Rattle.octets.proofs.Clauses.{reflects_yes, reflects_no}
 use Rattle.layout.proofs.Meaning.{ClassUnder, reflects_fit}
-use Rattle.faults.proofs.First.{fit_nothing, nothing_fit, is_broken, not_nothing, lowest_first, only_first}
+use Rattle.faults.proofs.First.{fit_none, none_fit, unfit_some, is_broken, not_none, lowest_first, only_first}
 
 fault_cases : FaultCases
-unfolding fault_point header_point mark_point first_fault first_in faults slot_faults wrong_number edition_known first_set zeros_before decided slots key_class edition_byte last_write slot_count sheet_size mark_at field_at mark_number mark_length mark field blank_slot edition_of mcrypton_class present_class class_known number_of all_zero zeros
+unfolding first_point fault_point header_point mark_point first_fault first_in faults slot_faults wrong_number edition_known first_set zeros_before decided slots key_class edition_byte last_write slot_count sheet_size mark_at field_at mark_number mark_length mark field blank_slot edition_of mcrypton_class present_class class_known number_of all_zero zeros
 fault_cases =
     record {
       fit = refl;
@@ -69,11 +69,12 @@ pub first_fault_law : FirstFault
 unfolding order
 first_fault_law =
     record {
-      fits = λ s. (fit_nothing s, nothing_fit s);
+      fits = λ s. (λ m. fit_none s (reflects_yes (reflects_fit s) m), λ e. (reflects_fit s).holds (none_fit s e));
       broken = is_broken;
-      some = not_nothing;
+      some = not_none;
       first = lowest_first;
       only = only_first;
+      fault_is = λ s n. unfit_some s (reflects_no (reflects_fit s) n);
       order_is = λ i j. (refl, refl, refl, refl, refl, refl, refl, refl, refl);
       fit_is = λ s. ((reflects_fit s).holds, reflects_yes (reflects_fit s));
       suffices = suffices;

@@ -4,6 +4,7 @@ use mathlib.Core.Path.{◌≡◌, refl, sym, ap, ◌∙◌}
 use mathlib.Core.Bool.{Bool, true, false, not, ◌&&◌, ◌||◌}
 use mathlib.Core.List.{List}
 use native.Mathlib.Omega.{arith}
+use Rattle.std.specs.Prelude.{Option, None, Some}
 use borrow.Author.Tests.{eqb-true, lt-ltb, le-ltb, le-leb, lt-leb, leb-true, ltb-false, not-true, not-false}
 use lib.Dec.{leb, ltb}
 use lib.ListN.{length, get_or}
@@ -22,7 +23,7 @@ use Rattle.octets.specs.Outcome.{decided}
 use Rattle.faults.specs.declared.MarkRule.{MarkRule}
 use Rattle.faults.specs.declared.MarkRule.TheVariants.{Number, Length, Zero}
 use Rattle.faults.specs.declared.Fault.{Fault}
-use Rattle.faults.specs.declared.Fault.TheVariants.{Nothing, Mark}
+use Rattle.faults.specs.declared.Fault.TheVariants.{Mark}
 use Rattle.faults.proofs.Places.{set_low, set_below, set_there, set_least}
 
 -- ---- the rows of slot i
@@ -95,29 +96,29 @@ module _ (e : Edition) (s : List ℕ) (i : ℕ) where
 -- ---- the first of them
 
 module _ (s : List ℕ) (i : ℕ) (l : i < slots s) where
-  rows : Edition → ℕ → Fault
+  rows : Edition → ℕ → Option Fault
   rows e n = first_in (slot_faults e s n i)
 
   more : slots s - i ≡ suc (slots s - (i + 1))
   more = omega arith
 
-  pub first_number : wrong_number (edition_of s) s i ≡ true → Mark i Number ≡ slots_fault s i
+  pub first_number : wrong_number (edition_of s) s i ≡ true → Some (Mark i Number) ≡ slots_fault s i
   unfolding slots_fault slot_faults first_in decided
   first_number a = rw (more, a)
 
   module _ (a : wrong_number (edition_of s) s i ≡ false) where
-    pub first_length : wrong_length (edition_of s) s i ≡ true → Mark i Length ≡ slots_fault s i
+    pub first_length : wrong_length (edition_of s) s i ≡ true → Some (Mark i Length) ≡ slots_fault s i
     unfolding slots_fault slot_faults first_in decided
     first_length b = rw (more, a, b)
 
     module _ (b : wrong_length (edition_of s) s i ≡ false) where
-      pub first_zero : wrong_zeros (edition_of s) s i ≡ true → Mark i (Zero (first_set (mark (edition_of s) s i) 6 2)) ≡ slots_fault s i
+      pub first_zero : wrong_zeros (edition_of s) s i ≡ true → Some (Mark i (Zero (first_set (mark (edition_of s) s i) 6 2))) ≡ slots_fault s i
       unfolding slots_fault slot_faults first_in decided
       first_zero c = rw (more, a, b, c)
 
       pub first_after : wrong_zeros (edition_of s) s i ≡ false → slots_fault s (i + 1) ≡ slots_fault s i
       unfolding slots_fault slot_faults first_in decided
-      first_after c = rw (more, a, b, c) (ap (λ (k : ℕ). decided (slot_faults (edition_of s) s (slots s - (i + 1)) k) Nothing (λ f. f)) {x = i + 1} {y = suc i} (omega arith))
+      first_after c = rw (more, a, b, c) (ap (λ (k : ℕ). decided (slot_faults (edition_of s) s (slots s - (i + 1)) k) None Some) {x = i + 1} {y = suc i} (omega arith))
 
 -- ---- slot i of a sheet s of shape h, which is not fit: x was read of its mark
 
@@ -161,10 +162,10 @@ module _ (s : List ℕ) (h : Shape) (i : ℕ) (p : SlotIn s h i) (w : ℕ) (g : 
   unfolding wrong_number
   number_wrong b = rw (not_blank, number_is, ← g, b)
 
-  pub rule_zero : x ≡ 0 → Mark i Number ≡ slots_fault s i
+  pub rule_zero : x ≡ 0 → Some (Mark i Number) ≡ slots_fault s i
   rule_zero z = first_number s i below (number_wrong (rw (lt-leb 1 x (omega arith))))
 
-  pub rule_late : (x ≡ 0 → ⊥) → w < x → Mark i Number ≡ slots_fault s i
+  pub rule_late : (x ≡ 0 → ⊥) → w < x → Some (Mark i Number) ≡ slots_fault s i
   rule_late z b = first_number s i below (number_wrong (rw (lt-leb x w b, le-leb 1 x (omega (arith, z)))))
 
   module _ (z : x ≡ 0 → ⊥) (b : x ≤ w) (y : ℕ) (ey : y ≡ number (part s (a + 4) 2)) where
@@ -172,7 +173,7 @@ module _ (s : List ℕ) (h : Shape) (i : ℕ) (p : SlotIn s h i) (w : ℕ) (g : 
     unfolding wrong_number
     number_right = rw (not_blank, number_is, ← g, le-leb 1 x (omega (arith, z)), le-leb x w b)
 
-    pub rule_long : 192 < y → Mark i Length ≡ slots_fault s i
+    pub rule_long : 192 < y → Some (Mark i Length) ≡ slots_fault s i
     rule_long c = first_length s i below number_right (rw (length_is y ey, lt-ltb 192 y c))
 
     module _ (c : y ≤ 192) (v : ℕ) (ev : v ≡ get_or s (a + 6) 0) where
@@ -190,10 +191,10 @@ module _ (s : List ℕ) (h : Shape) (i : ℕ) (p : SlotIn s h i) (w : ℕ) (g : 
       six_is : get_or (mark (edition_of s) s i) 6 0 ≡ v
       six_is = byte_is 6 (omega arith) ∙ sym ev
 
-      zero_at : (k : ℕ) → first_set (mark (edition_of s) s i) 6 2 ≡ k → Mark i (Zero k) ≡ slots_fault s i
-      zero_at k e = ap (λ (j : ℕ). Mark i (Zero j)) (sym e) ∙ first_zero s i below number_right length_right zeros_wrong
+      zero_at : (k : ℕ) → first_set (mark (edition_of s) s i) 6 2 ≡ k → Some (Mark i (Zero k)) ≡ slots_fault s i
+      zero_at k e = ap (λ (j : ℕ). Some (Mark i (Zero j))) (sym e) ∙ first_zero s i below number_right length_right zeros_wrong
 
-      pub rule_six : (v ≡ 0 → ⊥) → Mark i (Zero 6) ≡ slots_fault s i
+      pub rule_six : (v ≡ 0 → ⊥) → Some (Mark i (Zero 6)) ≡ slots_fault s i
       rule_six d =
           zero_at 6
           (omega (
@@ -202,7 +203,7 @@ module _ (s : List ℕ) (h : Shape) (i : ℕ) (p : SlotIn s h i) (w : ℕ) (g : 
             set_least (mark (edition_of s) s i) 6 2 6 (omega arith) (omega arith) (λ e. d (sym six_is ∙ e)),
           ))
 
-      pub rule_seven : v ≡ 0 → Mark i (Zero 7) ≡ slots_fault s i
+      pub rule_seven : v ≡ 0 → Some (Mark i (Zero 7)) ≡ slots_fault s i
       rule_seven d =
           zero_at 7
           (omega (arith, other, set_low (mark (edition_of s) s i) 6 2, set_below (mark (edition_of s) s i) 6 2 (not-true _ zeros_wrong)))
@@ -221,7 +222,7 @@ module _ (s : List ℕ) (h : Shape) (p : SheetOf s h) (i : ℕ) where
   in_sheet l = omega (arith, sheet_slots s h p)
 
   module _ (v : slots_fault s i ≡ slots_fault s 0) (l : i < h.slots) where
-    pub slots_found : (r : MarkRule) → Mark i r ≡ slots_fault s i → Mark i r ≡ slots_fault s 0
+    pub slots_found : (r : MarkRule) → Some (Mark i r) ≡ slots_fault s i → Some (Mark i r) ≡ slots_fault s 0
     slots_found r e = e ∙ v
 
     mark_size : length (mark (edition_of s) s i) ≡ 16
@@ -236,11 +237,11 @@ module _ (s : List ℕ) (h : Shape) (p : SheetOf s h) (i : ℕ) where
         let f = sym e ∙ t in
         first_after s i (in_sheet l) (fit_number (edition_of s) s i mark_size f) (fit_length (edition_of s) s i mark_size f) (fit_zeros (edition_of s) s i mark_size f) ∙ v
 
-  pub slots_end : slots_fault s i ≡ slots_fault s 0 → h.slots ≤ i → Nothing ≡ slots_fault s 0
+  pub slots_end : slots_fault s i ≡ slots_fault s 0 → h.slots ≤ i → None ≡ slots_fault s 0
   slots_end v l = past ∙ v
     where
       none : slots s - i ≡ 0
       none = omega (arith, sheet_slots s h p)
 
-      past : Nothing ≡ slots_fault s i
+      past : None ≡ slots_fault s i
       past = unfold slots_fault slot_faults first_in decided in rw none

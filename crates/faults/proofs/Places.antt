@@ -1,5 +1,5 @@
 -- Laws of the first byte that isn't zero.
-use Prim.Native.Nat.{ℕ, zero, suc, ◌+◌, ◌-◌, ◌≤◌, ◌<◌}
+use Prim.Native.Nat.{ℕ, zero, suc, ◌+◌, ◌-◌, ◌≤◌, ◌<◌, min}
 use mathlib.Core.Path.{◌≡◌, refl, sym, ap, ◌∙◌}
 use mathlib.Core.Bool.{Bool, true, false, not, false≢true}
 use mathlib.Core.List.{List, [], ◌∷◌}
@@ -9,6 +9,7 @@ use borrow.Author.Tests.{eq-eqb, ne_eqb}
 use lib.Dec.{eqb}
 use lib.ListN.{length, get_or, take, drop, length-drop, drop_of_length-le}
 use lib.Seq.{take_all, take-nil}
+use Rattle.std.specs.Prelude.{None, Some}
 use Rattle.octets.specs.Bytes.{if◌then◌otherwise◌, part, all_zero}
 use Rattle.octets.proofs.Bool.{and_false_left, not_both}
 use Rattle.octets.proofs.Parts.{drop_next, length_part, get_or_part}
@@ -191,7 +192,7 @@ all_sized s e h = go (dec_le 16 (length s))
     go (no g) = absurd (omega (arith, before_all (part s 10 6) e, ap length (short g), length-drop 10 s))
 
 module _ (s : List ℕ) (l : 8 ≤ length s) (y : ℕ) (e : y ≡ get_or s 3 0) where
-  pub place_one : (y ≡ 2 → ⊥) → 16 ≡ zero_place s
+  pub place_one : (y ≡ 2 → ⊥) → None ≡ zero_place s
   unfolding zero_place
   place_one q = rw (← edition_read s y l e, ne_eqb y 2 q)
 
@@ -199,18 +200,18 @@ module _ (s : List ℕ) (l : 8 ≤ length s) (y : ℕ) (e : y ≡ get_or s 3 0) 
     is_two : eqb (edition_byte s) 2 ≡ true
     is_two = eq-eqb (edition_byte s) 2 (sym (edition_read s y l e) ∙ q)
 
-    pub place_out : length s ≤ z → 16 ≡ zero_place s
+    pub place_out : min (length s) 16 ≤ z → None ≡ zero_place s
     unfolding zero_place
     place_out h = rw is_two (go (all_zero (part s 10 6)) refl)
       where
-        go : (b : Bool) → all_zero (part s 10 6) ≡ b → 16 ≡ (if not b then first_set s 10 6 otherwise 16)
+        go : (b : Bool) → all_zero (part s 10 6) ≡ b → None ≡ (if not b then Some (first_set s 10 6) otherwise None)
         go true u = refl
-        go false u = absurd (omega (arith, h, f, set_inside s 10 6 u))
+        go false u = absurd (omega (arith, h, f, set_inside s 10 6 u, set_below s 10 6 u))
 
-    pub place_in : z < length s → z ≡ zero_place s
+    pub place_in : z < min (length s) 16 → Some z ≡ zero_place s
     unfolding zero_place
     place_in h = rw is_two (go (all_zero (part s 10 6)) refl)
       where
-        go : (b : Bool) → all_zero (part s 10 6) ≡ b → z ≡ (if not b then first_set s 10 6 otherwise 16)
-        go true u = f ∙ all_sized s u (omega (arith, f, h))
-        go false u = f
+        go : (b : Bool) → all_zero (part s 10 6) ≡ b → Some z ≡ (if not b then Some (first_set s 10 6) otherwise None)
+        go true u = absurd (omega (arith, all_sized s u (omega (arith, f, h)), f, h))
+        go false u = ap Some f

@@ -1,5 +1,5 @@
 -- Which rule of the layout a sheet breaks first (document 02, request 5), and the numbers that point there.
-use Rattle.std.specs.Prelude.{ℕ, zero, suc, ◌+◌, Bool, not, ◌&&◌, ◌||◌, List, [], ◌∷◌, eqb, leb, ltb, length}
+use Rattle.std.specs.Prelude.{ℕ, zero, suc, ◌+◌, Bool, not, ◌&&◌, ◌||◌, List, [], ◌∷◌, eqb, leb, ltb, length, Option, None, Some, unwrap_or}
 use Rattle.octets.specs.Bytes.{part, all_zero}
 use Rattle.octets.specs.Outcome.{Row, ◌gives◌, decided}
 use Rattle.layout.specs.Layout.{Edition, edition_of, slots, key_class, edition_byte, last_write, sheet_size, slot_count, mark_number, mark_length, mark, blank_slot}
@@ -8,7 +8,7 @@ use Rattle.faults.specs.declared.HeaderRule.TheVariants.{Short, Count, Class, Ed
 use Rattle.faults.specs.declared.MarkRule.{MarkRule}
 use Rattle.faults.specs.declared.MarkRule.TheVariants.{Number, Length, Zero}
 use Rattle.faults.specs.declared.Fault.{Fault}
-use Rattle.faults.specs.declared.Fault.TheVariants.{Nothing, Header, Mark}
+use Rattle.faults.specs.declared.Fault.TheVariants.{Header, Mark}
 
 -- ---- the lowest byte that breaks a rule
 
@@ -52,12 +52,16 @@ faults s =
     ∷ (not (eqb (length s) (sheet_size (edition_of s).header (slots s))) gives Header SheetLength)
     ∷ slot_faults (edition_of s) s (slots s) 0
 
--- the first fault that applies, or nothing
-unfoldable pub first_in : List (Row Fault) → Fault
-first_in rows = decided rows Nothing (λ f. f)
+-- the first fault that applies, if one does
+unfoldable pub first_in : List (Row Fault) → Option Fault
+first_in rows = decided rows None Some
 
-unfoldable pub first_fault : List ℕ → Fault
+unfoldable pub first_fault : List ℕ → Option Fault
 first_fault s = first_in (faults s)
+
+-- the fault of a sheet that breaks a rule of its layout. One that breaks none has no fault: no call is refused with what stands here for it
+unfoldable pub fault_of : List ℕ → Fault
+fault_of s = unwrap_or (first_fault s) (Header Short)
 
 -- ---- the numbers
 
@@ -84,6 +88,10 @@ mark_point i Length = point 8 i 0
 mark_point i (Zero j) = point 9 i j
 
 unfoldable pub fault_point : Fault → Point
-fault_point Nothing = point 0 0 0
 fault_point (Header r) = header_point r
 fault_point (Mark i r) = mark_point i r
+
+-- where there is no fault, nothing is pointed at
+unfoldable pub first_point : Option Fault → Point
+first_point None = point 0 0 0
+first_point (Some f) = fault_point f

@@ -1,14 +1,14 @@
 -- What is proved of the first fault: a sheet without one meets the layout, and of the rules that a sheet breaks it is the first.
-use Rattle.std.specs.Prelude.{ℕ, ◌+◌, ◌*◌, ◌≤◌, ◌<◌, ◌≡◌, true, false, List, [], ◌∷◌, ◌++◌, ◌↔◌, ◌⊎◌, length, get_or}
+use Rattle.std.specs.Prelude.{ℕ, ◌+◌, ◌*◌, ◌≤◌, ◌<◌, ◌≡◌, true, false, List, [], ◌∷◌, ◌++◌, ◌↔◌, ◌⊎◌, length, get_or, None, Some}
 use Rattle.octets.specs.Bytes.{zeros}
 use Rattle.octets.specs.Clauses.{OneOf}
 use Rattle.layout.specs.Layout.{edition_of, slots, key_class, edition_byte, last_write, mark_number, mark_length, mark, blank_slot, fit}
 use Rattle.layout.specs.Rules.{MeetsLayout}
-use Rattle.faults.specs.Faults.{Point, point, first_fault, fault_point}
+use Rattle.faults.specs.Faults.{Point, point, first_fault, fault_of, fault_point, first_point}
 use Rattle.faults.specs.declared.HeaderRule.TheVariants.{Short, Count, Class, Edition as EditionRule, Zero as HeaderZero, Length as SheetLength}
 use Rattle.faults.specs.declared.MarkRule.TheVariants.{Number, Length, Zero}
 use Rattle.faults.specs.declared.Fault.{Fault}
-use Rattle.faults.specs.declared.Fault.TheVariants.{Nothing, Header, Mark}
+use Rattle.faults.specs.declared.Fault.TheVariants.{Header, Mark}
 
 -- that a sheet breaks a rule, and what points there: rule, slot and place. From 8 bytes on, bytes that a sheet lacks count as zero, and so break no rule but that of the length
 pub data Breaks (s : List ℕ) : Fault → Point → Type 0 where
@@ -39,7 +39,6 @@ pub record Suffices (s : List ℕ) : Type 0 where
 
 -- the order of faults: a sheet under 8 bytes, the header by its lowest byte, the length, then slot by slot, a mark by its lowest byte
 unfoldable pub order : Fault → ℕ
-order Nothing = 0
 order (Header Short) = 0
 order (Header Count) = 1
 order (Header Class) = 1 + 2
@@ -54,7 +53,7 @@ order (Mark i (Zero j)) = 18 + 16 * i + j
 
 -- what the first fault of a sheet points at
 abbrev pub point_of : List ℕ → Point
-point_of s = fault_point (first_fault s)
+point_of s = first_point (first_fault s)
 
 -- a sheet of edition 1 with two slots and w = 1: the first eight bytes of the two marks, and the first byte of the second field
 abbrev pub two_slots : List ℕ → List ℕ → ℕ → List ℕ
@@ -101,14 +100,16 @@ pub record FaultCases : Type 0 where
 
 pub record FirstFault : Type 0 where
   -- a sheet is fit exactly if it has no first fault
-  pub fits : (s : List ℕ) → MeetsLayout s ↔ (first_fault s ≡ Nothing)
+  pub fits : (s : List ℕ) → MeetsLayout s ↔ (first_fault s ≡ None)
   -- a first fault is broken, and points there
-  pub broken : (s : List ℕ) → (first_fault s ≡ Nothing → ⊥) → Breaks s (first_fault s) (fault_point (first_fault s))
+  pub broken : (s : List ℕ) (f : Fault) → first_fault s ≡ Some f → Breaks s f (fault_point f)
   -- where a rule is broken there is a first fault, and nothing before it is broken
-  pub some : (s : List ℕ) (f : Fault) (p : Point) → Breaks s f p → first_fault s ≡ Nothing → ⊥
-  pub first : (s : List ℕ) (f : Fault) (p : Point) → Breaks s f p → order (first_fault s) ≤ order f
+  pub some : (s : List ℕ) (f : Fault) (p : Point) → Breaks s f p → first_fault s ≡ None → ⊥
+  pub first : (s : List ℕ) (f : Fault) (p : Point) → Breaks s f p → (g : Fault) → first_fault s ≡ Some g → order g ≤ order f
   -- no two rules stand at one place of the order, so that no other fault is first
-  pub only : (s : List ℕ) (f : Fault) (p : Point) → Breaks s f p → ((g : Fault) (q : Point) → Breaks s g q → order f ≤ order g) → first_fault s ≡ f
+  pub only : (s : List ℕ) (f : Fault) (p : Point) → Breaks s f p → ((g : Fault) (q : Point) → Breaks s g q → order f ≤ order g) → first_fault s ≡ Some f
+  -- the fault of an unfit sheet is its first
+  pub fault_is : (s : List ℕ) → (MeetsLayout s → ⊥) → first_fault s ≡ Some (fault_of s)
   -- the order itself
   pub order_is : (i j : ℕ) → (order (Header Short) ≡ 0) × (order (Header Count) ≡ 1) × (order (Header Class) ≡ 3) × (order (Header EditionRule) ≡ 4) × (order (Header (HeaderZero j)) ≡ 1 + j)
       × (order (Header SheetLength) ≡ 17) × (order (Mark i Number) ≡ 18 + 16 * i) × (order (Mark i Length) ≡ 18 + 16 * i + 4) × (order (Mark i (Zero j)) ≡ 18 + 16 * i + j)

@@ -10,7 +10,7 @@ ghost use Rattle.faults.specs.Inner.{zero_place, slots_fault, size_fault, mark_f
 use layout::Shape;
 
 // The rules of a header, in the order of its bytes; the last is that of the sheet's length.
-#[derive(Clone, Copy)]
+#[derive(Clone, Copy, Debug, PartialEq, Eq)]
 pub enum HeaderRule {
     Short,
     Count,
@@ -21,7 +21,7 @@ pub enum HeaderRule {
 }
 
 // The rules of a written slot's mark, in the order of its bytes.
-#[derive(Clone, Copy)]
+#[derive(Clone, Copy, Debug, PartialEq, Eq)]
 pub enum MarkRule {
     Number,
     Length,
@@ -29,9 +29,8 @@ pub enum MarkRule {
 }
 
 // The rule that a sheet breaks first, with the slot where it is a mark's.
-#[derive(Clone, Copy)]
+#[derive(Clone, Copy, Debug, PartialEq, Eq)]
 pub enum Fault {
-    Nothing,
     Header(HeaderRule),
     Mark(u16, MarkRule),
 }
@@ -41,60 +40,54 @@ pub fn first_set(s: &[u8], a: usize, n: usize) -> usize
     requires { (a ≤ 192) × (n ≤ 192) }
     ensures { result ≡ first_set s.now a n }
 {
-    let mut i = a;
-    while i < a + n {
+    for i in a..a + n {
         if s.len() <= i {
             return i;
         }
         if s[i] != 0 {
             return i;
         }
-        i += 1;
     }
-    i
+    a + n
 }
 
+#[tactic(auto, unfolding(crate::specs::Faults::edition_known))]
 fn edition_known(v: usize) -> bool
     ensures { result ≡ edition_known v }
 {
-    if v == 1 {
-        return true;
-    }
-    if v == 2 {
-        return true;
-    }
-    v == 3
+    matches!(v, 1 | 2 | 3)
 }
 
-// The first of the header's zero bytes that isn't, or 16.
-fn zero_place(s: &[u8]) -> usize
+// The first of the header's zero bytes that isn't, of those that s has.
+fn zero_place(s: &[u8]) -> Option<u8>
     requires { 8 ≤ length s.now }
     ensures { result ≡ zero_place s.now }
 {
     if octets::byte(s, 3) != 2 {
-        return 16;
+        return None;
     }
     let z = first_set(s, 10, 6);
-    if s.len() <= z {
-        return 16;
+    if z < s.len().min(16) {
+        return Some(z as u8);
     }
-    z
+    None
 }
 
 // The rule that a slot breaks which is neither blank nor written.
+#[tactic(auto, unfolding(layout::specs::Layout::sheet_size, layout::specs::Layout::mark_at))]
 fn mark_rule(s: &[u8], h: Shape, w: usize, i: usize) -> MarkRule
     requires { SlotIn s.now h i × (w ≡ last_write s.now) × (fit_slot (edition_of s.now) s.now i ≡ false) }
     ensures { mark_fault i result ≡ slots_fault s.now i }
 {
     let a = layout::mark_at(h, i);
-    let x = octets::number4(s, a);
+    let x = octets::number::<4>(s, a);
     if x == 0 {
         return MarkRule::Number;
     }
     if w < x {
         return MarkRule::Number;
     }
-    if 192 < octets::number2(s, a + 4) {
+    if 192 < octets::number::<2>(s, a + 4) {
         return MarkRule::Length;
     }
     if octets::byte(s, a + 6) != 0 {
@@ -104,50 +97,47 @@ fn mark_rule(s: &[u8], h: Shape, w: usize, i: usize) -> MarkRule
 }
 
 // The first fault of the slots of a sheet whose header has none.
-fn slots_fault(s: &[u8], h: Shape, w: usize) -> Fault
+fn slots_fault(s: &[u8], h: Shape, w: usize) -> Option<Fault>
     requires { SheetOf s.now h × (w ≡ last_write s.now) }
     ensures { result ≡ slots_fault s.now 0 }
 {
-    let mut i = 0;
-    while i < h.slots {
+    for i in 0..h.slots {
         if !layout::fit_slot(s, h, w, i) {
             let r = mark_rule(s, h, w, i);
-            return Fault::Mark(i as u16, r);
+            return Some(Fault::Mark(i as u16, r));
         }
-        i += 1;
     }
-    Fault::Nothing
+    None
 }
 
 // The rule of the length, and then the slots.
-fn size_fault(s: &[u8]) -> Fault
+fn size_fault(s: &[u8]) -> Option<Fault>
     requires { 8 ≤ length s.now }
     ensures { result ≡ size_fault s.now }
 {
     if !layout::fit_size(s) {
-        return Fault::Header(HeaderRule::Length);
+        return Some(Fault::Header(HeaderRule::Length));
     }
     slots_fault(s, layout::sheet_shape(s), layout::last_write(s))
 }
 
-pub fn first_fault(s: &[u8]) -> Fault
+pub fn first_fault(s: &[u8]) -> Option<Fault>
     ensures { result ≡ first_fault s.now }
 {
     if s.len() < 8 {
-        return Fault::Header(HeaderRule::Short);
+        return Some(Fault::Header(HeaderRule::Short));
     }
-    if !layout::slot_count(octets::number2(s, 0)) {
-        return Fault::Header(HeaderRule::Count);
+    if !layout::slot_count(octets::number::<2>(s, 0)) {
+        return Some(Fault::Header(HeaderRule::Count));
     }
     if !layout::class_rule(s) {
-        return Fault::Header(HeaderRule::Class);
+        return Some(Fault::Header(HeaderRule::Class));
     }
     if !edition_known(octets::byte(s, 3)) {
-        return Fault::Header(HeaderRule::Edition);
+        return Some(Fault::Header(HeaderRule::Edition));
     }
-    let z = zero_place(s);
-    if z < 16 {
-        return Fault::Header(HeaderRule::Zero(z as u8));
+    if let Some(z) = zero_place(s) {
+        return Some(Fault::Header(HeaderRule::Zero(z)));
     }
     size_fault(s)
 }

@@ -1,5 +1,5 @@
 -- Laws of the key mark, one for each function and each way out.
-use Prim.Native.Nat.{ℕ, ◌/◌, ◌%◌, ◌≤◌, ◌<◌}
+use Prim.Native.Nat.{ℕ, ◌%◌, ◌≤◌, ◌<◌}
 use mathlib.Core.Path.{◌≡◌, refl, sym, ◌∙◌}
 use mathlib.Core.Bool.{Bool, true, false, not, ◌&&◌}
 use mathlib.Core.List.{List, [], ◌∷◌}
@@ -18,9 +18,10 @@ use Rattle.layout.proofs.Header.{edition_cases, edition_three, edition_read, hea
 use Rattle.layout.proofs.Fits.{fit_facts, fits_header}
 use Rattle.captions.specs.Captions.{Ciphers, pair, loaded_for, mark_block, key_mark, mark_for, other_keys}
 
-pub mark_block_lem : (n t v : ℕ) → n / 256 % 256 ∷ n % 256 ∷ t % 256 ∷ 3 ∷ v / 256 % 256 ∷ v % 256 ∷ 0 ∷ 0 ∷ [] ≡ mark_block n t v
+pub mark_block_lem : (n t v : ℕ) (x y : List ℕ) → x ≡ be 2 n → y ≡ be 2 v
+    → get_or x 0 0 ∷ get_or x 1 0 ∷ t % 256 ∷ 3 ∷ get_or y 0 0 ∷ get_or y 1 0 ∷ 0 ∷ 0 ∷ [] ≡ mark_block n t v
 unfolding mark_block be
-mark_block_lem n t v = rw (div-one n, div-one t, div-one v)
+mark_block_lem n t v x y e f = rw (e, f, div-one t)
 
 -- k and m are the loaded keys, b the block, c its check
 pub mark_made : (a b : List ℕ) (n t v : ℕ) (k m : Key) (x y c : List ℕ) → k ≡ loaded t a → m ≡ loaded t b → x ≡ mark_block n t v → y ≡ encrypted k x → c ≡ cmac (encrypted m) y → length c ≡ 8

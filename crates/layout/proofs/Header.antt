@@ -2,9 +2,10 @@
 use mathlib.Core.Path.{◌≡◌, refl, sym, ap, ◌∙◌}
 use mathlib.Core.Bool.{Bool, true, false, ◌&&◌, ◌||◌, false≢true}
 use mathlib.Core.List.{List}
+use mathlib.Core.Logic.{◌⊎◌, ⊎_elim}
 use Prim.Native.Nat.{ℕ, ◌+◌, ◌≤◌, ◌<◌}
 use native.Mathlib.Omega.{arith}
-use borrow.Author.Tests.{eq-eqb, ne_eqb, eqb-true, eqb-false, leb-true, le-leb, lt-leb}
+use borrow.Author.Tests.{eq-eqb, ne_eqb, eqb-true, eqb-false, leb-true, le-leb}
 use lib.Dec.{eqb, leb}
 use lib.ListN.{length, get_or}
 use Rattle.octets.specs.Bytes.{if◌then◌otherwise◌, Bytes, number, part, all_zero}
@@ -32,14 +33,6 @@ unfolding edition_byte
 edition_read s x h e = e ∙ sym (number_one s 3 (omega arith))
 
 -- ---- the count of slots
-
-pub count_none : (n : ℕ) → n < 1 → false ≡ slot_count n
-unfolding slot_count
-count_none n h = rw (lt-leb 1 n h)
-
-pub count_some : (n : ℕ) → 1 ≤ n → leb n 256 ≡ slot_count n
-unfolding slot_count
-count_some n h = rw (le-leb 1 n h)
 
 pub count_low : (n : ℕ) → slot_count n ≡ true → 1 ≤ n
 unfolding slot_count
@@ -96,15 +89,6 @@ header_small s = edition_cases (λ e. e.header ≤ 16) s (λ f g. omega arith) (
 
 pub header_holds : (s : List ℕ) → 8 ≤ (edition_of s).header
 header_holds s = edition_cases (λ e. 8 ≤ e.header) s (λ f g. omega arith) (λ h. omega arith) (λ h. omega arith)
-
--- y is a byte 3
-pub serial_two : (y : ℕ) → y ≡ 2 → true ≡ has_serial y
-unfolding has_serial
-serial_two y h = rw (eq-eqb y 2 h)
-
-pub serial_other : (y : ℕ) → (y ≡ 2 → ⊥) → eqb y 3 ≡ has_serial y
-unfolding has_serial
-serial_other y h = rw (ne_eqb y 2 h)
 
 -- the editions with a serial
 pub serial_cases : (P : Edition → Type 0) (s : List ℕ) → has_serial (edition_byte s) ≡ true → P edition2 → P edition3 → P (edition_of s)
@@ -209,13 +193,19 @@ module _ (s : List ℕ) (l : (edition_of s).header ≤ length s) where
       unfolding rule2
       rule_two q r u = u ∙ rw (is_two y g q, class_found edition2 (is_two y g q), ← edition_read s y (header_long s l) g, eq-eqb y 2 q)
 
-      pub rule_three : y ≡ 3 → true ≡ (edition_of s).rule s
+      rule_three : y ≡ 3 → true ≡ (edition_of s).rule s
       unfolding rule3
       rule_three q = rw (is_three y g q, class_found edition3 (is_three y g q), ← edition_read s y (header_long s l) g, eq-eqb y 3 q)
 
-      pub rule_one : (y ≡ 2 → ⊥) → (y ≡ 3 → ⊥) → eqb y 1 ≡ (edition_of s).rule s
+      one_or_none : (y ≡ 2 → ⊥) → (y ≡ 3 → ⊥) → eqb y 1 ≡ (edition_of s).rule s
       unfolding rule1
-      rule_one q r = rw (is_one y g q r, class_found edition1 (is_one y g q r), ← edition_read s y (header_long s l) g)
+      one_or_none q r = rw (is_one y g q r, class_found edition1 (is_one y g q r), ← edition_read s y (header_long s l) g)
+
+      pub rule_known : (y ≡ 1) ⊎ (y ≡ 3) → true ≡ (edition_of s).rule s
+      rule_known = ⊎_elim (λ q. sym (eq-eqb y 1 q) ∙ one_or_none (λ p. omega (arith, p, q)) (λ p. omega (arith, p, q))) rule_three
+
+      pub rule_none : (y ≡ 1 → ⊥) → (y ≡ 2 → ⊥) → (y ≡ 3 → ⊥) → false ≡ (edition_of s).rule s
+      rule_none n q r = sym (ne_eqb y 1 n) ∙ one_or_none q r
 
 -- ---- the size: n is what was read of bytes 0 and 1, r what was found of it
 

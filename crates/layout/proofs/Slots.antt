@@ -1,19 +1,21 @@
 -- Laws of marks and slots, one for each way out of a function that decides them.
 use mathlib.Core.Path.{◌≡◌, refl, sym, ap, ap₂, ◌∙◌}
-use mathlib.Core.Bool.{Bool, true, false}
-use mathlib.Core.List.{List, [], ◌∷◌}
+use mathlib.Core.Bool.{Bool, true, false, ◌&&◌, and-true}
+use mathlib.Core.List.{List, [], ◌∷◌, ◌++◌}
 use Prim.Native.Nat.{ℕ, zero, suc, ◌+◌, ◌-◌, ◌*◌, ◌^◌, ◌≤◌, ◌<◌}
+use native.Mathlib.Nat.{add-zero}
 use native.Mathlib.Omega.{arith}
 use borrow.Author.Tests.{ne_eqb}
 use lib.Dec.{eqb}
 use lib.ListN.{length, take, drop}
+use Rattle.std.specs.List.{list_all, range_with_len}
+use Rattle.std.proofs.lemmas.List.Folds.{list_all-append}
 use Rattle.octets.specs.Bytes.{number, part, all_zero, all_below}
 use Rattle.octets.proofs.Bool.{and_false_left}
-use Rattle.octets.proofs.Compare.{all_below_next, all_below_stop}
 use Rattle.octets.proofs.Numbers.{pow256_pos}
 use Rattle.octets.proofs.Parts.{part_span}
 use Rattle.layout.specs.declared.Shape.{Shape}
-use Rattle.layout.specs.Layout.{slots, edition_of, sheet_size, mark_at, field_at, mark, field, blank_slot, fit_slot}
+use Rattle.layout.specs.Layout.{slots, edition_of, sheet_size, mark_at, field_at, mark, field, blank_slot}
 use Rattle.layout.specs.Shape.{shape_of, SheetOf, SlotIn}
 
 -- ---- marks
@@ -24,6 +26,20 @@ unfolding number all_zero
 number_zero [] = refl
 number_zero (zero ∷ s) = ap (λ (n : ℕ). eqb n 0) {x = 0 * 256 ^ length s + number s} {y = number s} (omega arith) ∙ number_zero s
 number_zero (suc x ∷ s) = ne_eqb (suc x * 256 ^ length s + number s) 0 (λ q. omega (arith, pow256_pos (length s))) ∙ sym (and_false_left (eqb (suc x) 0) (all_zero s) (ne_eqb (suc x) 0 (λ q. omega arith)))
+
+-- ---- a test of each number of a range
+
+range_more : (a n : ℕ) → range_with_len a (suc n) ≡ range_with_len a n ++ (a + n) ∷ []
+range_more a zero = rw (add-zero a)
+range_more a (suc n) = ap (λ (s : List ℕ). a ∷ s) (range_more (a + 1) n ∙ ap (λ (k : ℕ). range_with_len (a + 1) n ++ k ∷ []) {x = a + 1 + n} {y = a + suc n} (omega arith))
+
+pub range_all : (p : ℕ → Bool) (n : ℕ) → list_all p (range_with_len 0 n) ≡ all_below n p
+unfolding all_below
+range_all p zero = refl
+range_all p (suc n) =
+    ap (list_all p) (range_more 0 n)
+    ∙ list_all-append p (range_with_len 0 n) ((0 + n) ∷ [])
+    ∙ ap₂ (λ (b c : Bool). b && c) (range_all p n) (and-true (p (0 + n)) ∙ ap p {x = 0 + n} {y = n} (omega arith))
 
 -- ---- slot i of a sheet s of shape h
 
@@ -63,7 +79,7 @@ module _ (s : List ℕ) (h : Shape) (i : ℕ) (p : SlotIn s h i) where
     unfolding blank_slot
     blank_field f t b g q u = rw (← slot_mark_lem a e, ← f, t, ← slot_field b g) u
 
--- ---- the slots of a sheet s of shape h, of which those below i are found fit
+-- ---- the slots of a sheet s of shape h
 
 module _ (s : List ℕ) (h : Shape) (p : SheetOf s h) where
   pub sheet_slots : h.slots ≡ slots s
@@ -72,13 +88,3 @@ module _ (s : List ℕ) (h : Shape) (p : SheetOf s h) where
 
   pub slot_of : (i : ℕ) → i < h.slots → SlotIn s h i
   slot_of i l = record { shape = p.shape; size = p.size; small = p.small; below = l }
-
-  module _ (i : ℕ) where
-    pub slots_stop : i < h.slots → (r : Bool) → r ≡ fit_slot (edition_of s) s i → r ≡ false → false ≡ all_below (slots s) (fit_slot (edition_of s) s)
-    slots_stop l r e t = sym (all_below_stop (fit_slot (edition_of s) s) (slots s) i (omega (arith, sheet_slots)) (sym e ∙ t))
-
-    pub slots_end : all_below i (fit_slot (edition_of s) s) ≡ true → i ≤ h.slots → h.slots ≤ i → true ≡ all_below (slots s) (fit_slot (edition_of s) s)
-    slots_end e l g = sym (ap (λ (n : ℕ). all_below n (fit_slot (edition_of s) s)) {x = slots s} {y = i} (omega (arith, sheet_slots)) ∙ e)
-
-pub slots_next : (s : List ℕ) (i : ℕ) → all_below i (fit_slot (edition_of s) s) ≡ true → (r : Bool) → r ≡ fit_slot (edition_of s) s i → r ≡ true → all_below (i + 1) (fit_slot (edition_of s) s) ≡ true
-slots_next s i e r f t = all_below_next (fit_slot (edition_of s) s) i e (sym f ∙ t)

@@ -1,6 +1,6 @@
 -- Laws of blanking, of zeroing a slot, and of the shape of a sheet after a store.
 use mathlib.Core.Path.{◌≡◌, refl, sym, ap, ◌∙◌}
-use mathlib.Core.List.{List, ◌++◌}
+use mathlib.Core.List.{List, [], ◌∷◌, ◌++◌}
 use Prim.Native.Nat.{ℕ, ◌+◌, ◌*◌, ◌/◌, ◌%◌, ◌≤◌, ◌<◌}
 use native.Mathlib.Nat.{mod-eq_of_lt, div-one}
 use native.Mathlib.Omega.{arith}
@@ -14,17 +14,20 @@ use Rattle.layout.specs.Shape.{shape_of, SlotIn}
 use Rattle.layout.proofs.Header.{edition_cases, header_holds}
 use Rattle.layout.proofs.Slots.{header_is, slots_are}
 
--- the stores of the header into zeros: the key mark, and six bytes
-pub blank_stored : (s l r m : List ℕ) (n t x : ℕ) → l ≡ zeros (length s) → r ≡ put l 10 m → length m ≡ 6 → length s ≡ sheet_size new_edition.header n → n ≤ 256 → t < 256 → x < 65536
-    → set (set (set (set (set (set r 0 (n / 256)) 1 (n % 256)) 2 t) 3 3) 8 (x / 256)) 9 (x % 256) ≡ blank_sheet n t x m
+-- the stores of the header into zeros
+pub blank_stored : (s l m : List ℕ) (n t x : ℕ) → l ≡ zeros (length s) → length m ≡ 6 → length s ≡ sheet_size new_edition.header n → t < 256
+    → put (put (set (set (put l 0 (be 2 n)) 2 t) 3 3) 8 (be 2 x)) 10 m ≡ blank_sheet n t x m
 unfolding blank_sheet blank_slots blank_header serial_header first_eight zeros be sheet_size put
-blank_stored s l r m n t x e is six f h g d =
+blank_stored s l m n t x e six f g =
     let k : length s ≡ 16 + 208 * n = f in
     let z : l ≡ replicate 16 0 ++ replicate (208 * n) 0 = e ∙ rw k (sym (replicate-append-replicate 16 (208 * n) 0)) in
-    let a : n / 256 % 256 ≡ n / 256 = mod-eq_of_lt (omega arith) in
     let b : t % 256 ≡ t = mod-eq_of_lt g in
-    let c : x / 256 % 256 ≡ x / 256 = mod-eq_of_lt (omega arith) in
-    rw (is, z, six, div-one n, div-one t, div-one x, a, b, c)
+    rw (z, six, div-one t, b)
+
+-- the bytes of a number as std spells them
+pub be_two : (x : ℕ) → x / 256 % 256 ∷ x % 256 ∷ [] ≡ be 2 x
+unfolding be
+be_two x = rw (div-one x)
 
 -- all bytes of a slot
 pub slot_zeroed : (s t u : List ℕ) (h : Shape) (i a b : ℕ) → SlotIn s h i → b ≡ field_at h.header h.slots i → t ≡ put s b (zeros 192)

@@ -21,30 +21,26 @@ const HEADER_1: usize = 8;
 // The size of the header from edition 2 on.
 const HEADER_2: usize = 16;
 
+#[tactic(auto, unfolding(crate::specs::Layout::slot_count))]
 pub fn slot_count(n: usize) -> bool
     ensures { result ≡ slot_count n }
 {
-    if n < 1 {
-        return false;
-    }
-    n <= 256
+    matches!(n, 1..=256)
 }
 
 pub fn last_write(s: &[u8]) -> usize
     requires { 8 ≤ length s.now }
     ensures { (result ≡ last_write s.now) × (result < 4294967296) }
 {
-    octets::number4(s, 4)
+    octets::number::<4>(s, 4)
 }
 
 // Whether an edition's header has a serial.
+#[tactic(auto, unfolding(crate::specs::Shape::has_serial))]
 fn has_serial(v: usize) -> bool
     ensures { result ≡ has_serial v }
 {
-    if v == 2 {
-        return true;
-    }
-    v == 3
+    matches!(v, 2 | 3)
 }
 
 // The size of the header of the sheet's edition.
@@ -53,9 +49,10 @@ fn header_size(s: &[u8]) -> usize
     ensures { result ≡ (edition_of s.now).header }
 {
     if has_serial(octets::byte(s, 3)) {
-        return HEADER_2;
+        HEADER_2
+    } else {
+        HEADER_1
     }
-    HEADER_1
 }
 
 // The last two bytes of the block that is encrypted to make a start block: the serial, or zero in edition 1.
@@ -64,9 +61,10 @@ fn start_tail(s: &[u8]) -> usize
     ensures { result ≡ (edition_of s.now).tail s.now }
 {
     if has_serial(octets::byte(s, 3)) {
-        return octets::number2(s, 8);
+        octets::number::<2>(s, 8)
+    } else {
+        0
     }
-    0
 }
 
 pub fn sheet_shape(s: &[u8]) -> Shape
@@ -75,7 +73,7 @@ pub fn sheet_shape(s: &[u8]) -> Shape
 {
     Shape {
         header: header_size(s),
-        slots: octets::number2(s, 0),
+        slots: octets::number::<2>(s, 0),
         class: octets::byte(s, 2),
         tail: start_tail(s),
     }
@@ -88,9 +86,10 @@ pub fn class_rule(s: &[u8]) -> bool
 {
     let t = octets::byte(s, 2);
     if octets::byte(s, 3) == 3 {
-        return cipher::class_known(t);
+        cipher::class_known(t)
+    } else {
+        cipher::mcrypton_class(t)
     }
-    cipher::mcrypton_class(t)
 }
 
 // The rule of the sheet's edition on its header.
@@ -98,17 +97,13 @@ fn header_rule(s: &[u8]) -> bool
     requires { (edition_of s.now).header ≤ length s.now }
     ensures { result ≡ (edition_of s.now).rule s.now }
 {
-    if !class_rule(s) {
-        return false;
-    }
     let edition = octets::byte(s, 3);
-    if edition == 2 {
-        return octets::all_zero(&s[10..16]);
-    }
-    if edition == 3 {
-        return true;
-    }
-    edition == 1
+    class_rule(s)
+        && match edition {
+            1 | 3 => true,
+            2 => octets::all_zero(&s[10..16]),
+            _ => false,
+        }
 }
 
 // Whether the sheet has the size that its header says.
@@ -116,11 +111,8 @@ pub fn fit_size(s: &[u8]) -> bool
     requires { 8 ≤ length s.now }
     ensures { result ≡ slot_count (slots s.now) && eqb (length s.now) (sheet_size (edition_of s.now).header (slots s.now)) }
 {
-    let n = octets::number2(s, 0);
-    if !slot_count(n) {
-        return false;
-    }
-    s.len() == sheet_size(header_size(s), n)
+    let n = octets::number::<2>(s, 0);
+    slot_count(n) && s.len() == sheet_size(header_size(s), n)
 }
 
 // The size of a sheet of n slots.
@@ -152,11 +144,8 @@ pub fn blank_slot(s: &[u8], h: Shape, i: usize) -> bool
     ensures { result ≡ blank_slot (edition_of s.now) s.now i }
 {
     let a = mark_at(h, i);
-    if !octets::all_zero(&s[a..a + 16]) {
-        return false;
-    }
     let b = field_at(h, i);
-    octets::all_zero(&s[b..b + 192])
+    octets::all_zero(&s[a..a + 16]) && octets::all_zero(&s[b..b + 192])
 }
 
 // Whether a slot is blank whose write number is 0; rest is the number in bytes 4 to 7 of its mark.
@@ -164,28 +153,16 @@ fn blank_after(s: &[u8], h: Shape, i: usize, rest: usize) -> bool
     requires { SlotIn s.now h i }
     ensures { result ≡ blank_after s.now h i rest }
 {
-    if rest != 0 {
-        return false;
-    }
     let a = mark_at(h, i) + 8;
-    if !octets::all_zero(&s[a..a + 8]) {
-        return false;
-    }
     let b = field_at(h, i);
-    octets::all_zero(&s[b..b + 192])
+    rest == 0 && octets::all_zero(&s[a..a + 8]) && octets::all_zero(&s[b..b + 192])
 }
 
 // Whether a slot is written whose write number is not 0.
 fn written_after(number: usize, rest: usize, w: usize) -> bool
     ensures { result ≡ written_after w number rest }
 {
-    if w < number {
-        return false;
-    }
-    if 192 * 65536 < rest {
-        return false;
-    }
-    rest % 65536 == 0
+    number <= w && rest <= 192 * 65536 && rest % 65536 == 0
 }
 
 // A mark's numbers are read once: the write number says which of the two a slot can be.
@@ -195,12 +172,13 @@ pub fn fit_slot(s: &[u8], h: Shape, w: usize, i: usize) -> bool
     ensures { result ≡ fit_slot (edition_of s.now) s.now i }
 {
     let a = mark_at(h, i);
-    let number = octets::number4(s, a);
-    let rest = octets::number4(s, a + 4);
+    let number = octets::number::<4>(s, a);
+    let rest = octets::number::<4>(s, a + 4);
     if number == 0 {
-        return blank_after(s, h, i, rest);
+        blank_after(s, h, i, rest)
+    } else {
+        written_after(number, rest, w)
     }
-    written_after(number, rest, w)
 }
 
 fn fit_slots(s: &[u8], h: Shape, w: usize) -> bool
@@ -208,29 +186,13 @@ fn fit_slots(s: &[u8], h: Shape, w: usize) -> bool
     requires w_value { w ≡ last_write s.now }
     ensures { result ≡ all_below (slots s.now) (fit_slot (edition_of s.now) s.now) }
 {
-    let mut i = 0;
-    while i < h.slots {
-        if !fit_slot(s, h, w, i) {
-            return false;
-        }
-        i += 1;
-    }
-    true
+    (0..h.slots).all(|i| fit_slot(s, h, w, i))
 }
 
 pub fn fit_sheet(s: &[u8]) -> bool
     ensures { result ≡ fit s.now }
 {
-    if s.len() < 8 {
-        return false;
-    }
-    if !fit_size(s) {
-        return false;
-    }
-    if !header_rule(s) {
-        return false;
-    }
-    fit_slots(s, sheet_shape(s), last_write(s))
+    s.len() >= 8 && fit_size(s) && header_rule(s) && fit_slots(s, sheet_shape(s), last_write(s))
 }
 
 // The size of a blank sheet of n slots.
@@ -248,13 +210,11 @@ pub fn put_blank(sheet: &mut [u8], n: usize, t: usize, serial: u16, mark: [u8; 6
     ensures { sheet.new ≡ blank_sheet n t serial mark }
 {
     octets::fill_zero(sheet);
-    octets::copy_part(sheet, 10, &mark);
-    sheet[0] = (n / 256) as u8;
-    sheet[1] = (n % 256) as u8;
+    octets::copy_part(sheet, 0, &octets::bytes::<2>(n));
     sheet[2] = t as u8;
     sheet[3] = 3;
-    sheet[8] = (serial / 256) as u8;
-    sheet[9] = (serial % 256) as u8;
+    octets::copy_part(sheet, 8, &serial.to_be_bytes());
+    octets::copy_part(sheet, 10, &mark);
 }
 
 // All 208 bytes of slot i become zero.
@@ -271,5 +231,5 @@ pub fn put_last(sheet: &mut [u8], w: usize)
     requires { 8 ≤ length sheet.old }
     ensures { sheet.new ≡ store_last sheet.old w }
 {
-    octets::copy_part(sheet, 4, &octets::bytes4(w));
+    octets::copy_part(sheet, 4, &octets::bytes::<4>(w));
 }

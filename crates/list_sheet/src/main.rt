@@ -5,7 +5,7 @@ fn main(rt: HostRuntime) {
     let mut sheet = [0u8; 53265];
     let n = show::fill(&mut rt.stdin(), &mut sheet);
     let mut text = [0u8; 10553];
-    let k = listing::list(&sheet[..n], &mut text);
+    let k = listing::list(&sheet[..n], &mut text).unwrap_or(0);
     // The status is 0 whatever comes of it.
     match rt.write_all(&text[..k]) {
         Ok(()) | Err(_) => {}

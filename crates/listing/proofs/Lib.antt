@@ -1,5 +1,5 @@
 pub mod Decimal
-pub mod Text
+pub mod Appending
 pub mod Lines
 pub mod Whole
 pub mod Lengths

@@ -1,11 +1,10 @@
--- Laws of lines put into a buffer, one for each way out of a function that puts them.
-use Prim.Native.Nat.{ℕ, suc, ◌+◌, ◌*◌, ◌≤◌, ◌<◌}
+-- Laws of lines put after a text, one for each way out of a function that puts them.
+use Prim.Native.Nat.{ℕ, ◌+◌, ◌≤◌}
 use mathlib.Core.Path.{◌≡◌, sym, ap, ◌∙◌}
 use mathlib.Core.Bool.{Bool, true, false}
-use mathlib.Core.List.{List, ◌++◌, append_assoc}
+use mathlib.Core.List.{List, ◌++◌, append_assoc, append-nil}
 use native.Mathlib.Numerals.{add-one}
 use native.Mathlib.Omega.{arith}
-use lib.ListN.{length}
 use Rattle.octets.specs.Bytes.{number, part}
 use Rattle.octets.proofs.Parts.{part_part}
 use Rattle.layout.specs.declared.Shape.{Shape}
@@ -14,29 +13,14 @@ use Rattle.layout.specs.Shape.{SlotIn}
 use Rattle.layout.proofs.Slots.{header_is}
 use Rattle.listing.specs.Ascii.{ascii}
 use Rattle.listing.specs.Listing.{decimal, space, line_feed, ended, line, head_line, blank_line, written_line, slot_line, slot_lines}
-use Rattle.listing.specs.Appended.{Appended}
-use Rattle.listing.proofs.Text.{append_none, append_wider, append_then}
 
 -- a word, a number, and the bytes after them
 abbrev field_text : List ℕ → ℕ → ℕ → List ℕ
 field_text w x b = ended w space ++ ended (decimal x) b
 
-pub append_field : (l m o w : List ℕ) (a e r x b : ℕ) → a + 19 ≤ length l
-    → Appended 8 l a (ended w space) e m → Appended 11 m e (ended (decimal x) b) r o → Appended 19 l a (field_text w x b) r o
-append_field l m o w a e r x b h p q = append_then 8 11 l m o (ended w space) (ended (decimal x) b) a e r h p q
-
-pub append_head : (l m o x : List ℕ) (n bits last e f r : ℕ) → 57 ≤ length l
-    → Appended 19 l 0 (field_text (ascii "slots") n space) e m
-    → Appended 19 m e (field_text (ascii "key") bits space) f o
-    → Appended 19 o f (field_text (ascii "last") last line_feed) r x
-    → Appended 57 l 0 (head_line n bits last) r x
+pub head_put : (n bits last : ℕ) → (field_text (ascii "slots") n space ++ field_text (ascii "key") bits space) ++ field_text (ascii "last") last line_feed ≡ head_line n bits last
 unfolding head_line line
-append_head l m o x n bits last e f r h p q t =
-    let a = field_text (ascii "slots") n space in
-    let b = field_text (ascii "key") bits space in
-    let c = field_text (ascii "last") last line_feed in
-    let d : head_line n bits last ≡ (a ++ b) ++ c = sym (simp append_assoc) in
-    rw d (append_then 38 19 l o x (a ++ b) c 0 f r h (append_then 19 19 l m o a b 0 e f (omega arith) p q) t)
+head_put n bits last = simp append_assoc
 
 -- ---- the line of slot i of a sheet s of shape h
 
@@ -55,44 +39,29 @@ module _ (s : List ℕ) (h : Shape) (i : ℕ) (p : SlotIn s h i) (k : ℕ) (e : 
   unfolding mark_length
   length_read x f = f ∙ ap number (part_mark 4 2 (omega arith))
 
--- b is what was found of its blankness, and its number is put
-module _ (s : List ℕ) (i : ℕ) (b : Bool) (t : b ≡ blank_slot (edition_of s) s i)
-    (l m : List ℕ) (a e : ℕ) (g : a + 41 ≤ length l) (f : Appended 11 l a (ended (decimal i) space) e m) where
-  pub append_blank : b ≡ true → (x : List ℕ) (r : ℕ) → Appended 8 m e (ended (ascii "blank") line_feed) r x → Appended 41 l a (slot_line s i) r x
+-- b is what was found of its blankness, and its number is put after v
+module _ (s : List ℕ) (i : ℕ) (b : Bool) (t : b ≡ blank_slot (edition_of s) s i) (v m : List ℕ) (f : m ≡ v ++ ended (decimal i) space) where
+  pub blank_put : b ≡ true → (x : List ℕ) → x ≡ m ++ ended (ascii "blank") line_feed → x ≡ v ++ slot_line s i
   unfolding slot_line blank_line line
-  append_blank c x r q =
-      rw (← t, c)
-      (append_wider 19 41 l x (ended (decimal i) space ++ ended (ascii "blank") line_feed) a r (omega arith)
-      (append_then 11 8 l m x (ended (decimal i) space) (ended (ascii "blank") line_feed) a e r (omega arith) f q))
+  blank_put c x q = q ∙ rw (f, ← t, c) (append_assoc v (ended (decimal i) space) (ended (ascii "blank") line_feed))
 
-  pub append_written : b ≡ false → (h : Shape) → SlotIn s h i → (k : ℕ) → k ≡ mark_at h.header i
+  pub written_put : b ≡ false → (h : Shape) → SlotIn s h i → (k : ℕ) → k ≡ mark_at h.header i
       → (n : ℕ) → n ≡ number (part s k 4) → (c : ℕ) → c ≡ number (part s (k + 4) 2)
-      → (o x : List ℕ) (u r : ℕ) → Appended 19 m e (field_text (ascii "written") n space) u o → Appended 11 o u (ended (decimal c) line_feed) r x
-      → Appended 41 l a (slot_line s i) r x
+      → (o x : List ℕ) → o ≡ m ++ field_text (ascii "written") n space → x ≡ o ++ ended (decimal c) line_feed → x ≡ v ++ slot_line s i
   unfolding slot_line written_line line
-  append_written d h p k w n y c z o x u r q v =
-      let start = ended (decimal i) space in
-      let end = ended (decimal c) line_feed in
-      let middle = field_text (ascii "written") n space in
-      let j : written_line i n c ≡ (start ++ middle) ++ end = sym (simp append_assoc) in
-      rw (← t, d, ← number_read s h i p k w n y, ← length_read s h i p k w c z, j)
-      (append_then 30 11 l o x (start ++ middle) end a u r g (append_then 11 19 l m o start middle a e u (omega arith) f q) v)
+  written_put d h p k w n y c z o x q r = r ∙ rw (q, f, ← t, d, ← number_read s h i p k w n y, ← length_read s h i p k w c z) (simp append_assoc)
 
--- ---- the lines of the slots, of which those below i are put
+-- ---- the lines of the slots, of which those below i are put after v
 
-module _ (s l : List ℕ) (a : ℕ) where
-  pub append_no_slots : Appended (41 * 0) l a (slot_lines s 0) a l
+module _ (s v : List ℕ) where
+  pub no_slots_put : v ≡ v ++ slot_lines s 0
   unfolding slot_lines
-  append_no_slots = append_none l a
+  no_slots_put = sym (append-nil v)
 
-  pub append_slot : (m x : List ℕ) (n i e r : ℕ) → i < n → n ≤ 256 → a + 41 * 256 ≤ length l
-      → Appended (41 * i) l a (slot_lines s i) e m → Appended 41 m e (slot_line s i) r x → Appended (41 * (i + 1)) l a (slot_lines s (i + 1)) r x
-  unfolding slot_lines
-  append_slot m x n i e r h f g p q =
-      let k : 41 * suc i ≡ 41 * i + 41 = omega arith in
-      rw (add-one i, k) (append_then (41 * i) 41 l m x (slot_lines s i) (slot_line s i) a e r (omega arith) p q)
+  module _ (m : List ℕ) (i : ℕ) (p : m ≡ v ++ slot_lines s i) where
+    pub slot_put : (x : List ℕ) → x ≡ m ++ slot_line s i → x ≡ v ++ slot_lines s (i + 1)
+    unfolding slot_lines
+    slot_put x q = q ∙ rw (p, add-one i) (append_assoc v (slot_lines s i) (slot_line s i))
 
-  pub append_slots : (m : List ℕ) (n i r : ℕ) → i ≤ n → n ≤ i → n ≤ 256 → Appended (41 * i) l a (slot_lines s i) r m → Appended (41 * 256) l a (slot_lines s n) r m
-  append_slots m n i r h g f p =
-      let e : n ≡ i = omega arith in
-      rw e (append_wider (41 * i) (41 * 256) l m (slot_lines s i) a r (omega arith) p)
+    pub slots_put : (n : ℕ) → i ≤ n → n ≤ i → m ≡ v ++ slot_lines s n
+    slots_put n h g = let e : n ≡ i = omega arith in rw e p

@@ -1,6 +1,6 @@
 -- Laws of the whole listing, one for each way out of a function that makes it.
-use Prim.Native.Nat.{ℕ, ◌+◌, ◌*◌, ◌≤◌, ◌<◌}
-use mathlib.Core.Path.{◌≡◌, sym, ◌∙◌, subst}
+use Prim.Native.Nat.{ℕ, ◌*◌, ◌≤◌, ◌<◌}
+use mathlib.Core.Path.{◌≡◌, sym, ap, ◌∙◌, subst}
 use mathlib.Core.Bool.{Bool, true, false}
 use mathlib.Core.List.{List, ◌++◌}
 use native.Mathlib.Decide.{dec_lt}
@@ -11,7 +11,7 @@ use lib.ListN.{length, take}
 use lib.Seq.{length-take-le}
 use Rattle.octets.specs.Bytes.{put}
 use Rattle.octets.proofs.Bool.{and_right}
-use Rattle.octets.proofs.Parts.{length_put, part_put}
+use Rattle.octets.proofs.Parts.{length_put}
 use Rattle.cipher.specs.Key.{key_bytes}
 use Rattle.layout.specs.declared.Shape.{Shape}
 use Rattle.layout.specs.Layout.{last_write, fit, edition_of}
@@ -19,13 +19,11 @@ use Rattle.layout.specs.Shape.{shape_of, SheetOf}
 use Rattle.layout.proofs.Fits.{Fits, fit_facts, fits_sheet, fits_header, fits_class_small}
 use Rattle.listing.specs.Ascii.{ascii}
 use Rattle.listing.specs.Listing.{line_feed, ended, line, head_line, slot_lines, key_bits, listable, listing, listed}
-use Rattle.listing.specs.Appended.{Appended}
-use Rattle.listing.proofs.Text.{append_wider, append_then}
 
 -- ---- whether a sheet is listed
 
 module _ (s : List ℕ) where
-  pub listable_long : 53264 < length s → false ≡ listable s
+  pub listable_long : 53264 < length s → leb (length s) 53264 ≡ listable s
   unfolding listable
   listable_long h = rw (lt-leb (length s) 53264 h)
 
@@ -35,9 +33,9 @@ module _ (s : List ℕ) where
 
   -- r is what was found of it
   module _ (r : Bool) (e : r ≡ listable s) where
-    pub append_unfit : r ≡ false → (l m : List ℕ) (a : ℕ) → Appended 8 l 0 (ended (ascii "unfit") line_feed) a m → Appended 10553 l 0 (listing s) a m
+    pub unfit_put : r ≡ false → (m : List ℕ) → m ≡ ended (ascii "unfit") line_feed → m ≡ listing s
     unfolding listing line
-    append_unfit t l m a p = rw (← e, t) (append_wider 8 10553 l m (ended (ascii "unfit") line_feed) 0 a (omega arith) p)
+    unfit_put t m p = p ∙ rw (← e, t)
 
     module _ (t : r ≡ true) where
       listable_fits : Fits s
@@ -62,32 +60,27 @@ module _ (s : List ℕ) where
         pub slots_small : h.slots < 10000000000
         slots_small = omega (arith, sheet_of.small.1)
 
-        pub append_listing : (k w : ℕ) → k ≡ 8 * key_bytes h.class → w ≡ last_write s → (l m x : List ℕ) (a b : ℕ) → length l ≡ 10553
-            → Appended 57 l 0 (head_line h.slots k w) a m → Appended (41 * 256) m a (slot_lines s h.slots) b x → Appended 10553 l 0 (listing s) b x
+        pub listing_put : (k w : ℕ) → k ≡ 8 * key_bytes h.class → w ≡ last_write s → (l m : List ℕ)
+            → l ≡ head_line h.slots k w → m ≡ l ++ slot_lines s h.slots → m ≡ listing s
         unfolding listing key_bits shape_of
-        append_listing k w f g l m x a b d p v =
-            let c : head_line h.slots k w ++ slot_lines s h.slots ≡ listing s = rw (← e, t, f, g, q) in
-            rw (← c) (append_then 57 10496 l m x (head_line h.slots k w) (slot_lines s h.slots) 0 a b (omega arith) p v)
+        listing_put k w f g l m p v = v ∙ rw (p, ← e, t, f, g, q)
 
--- ---- the listing m of n bytes copied to the output
+-- ---- the listing m copied to the output
 
-module _ (s out l m : List ℕ) (n : ℕ) (p : Appended 10553 l 0 (listing s) n m) where
-  pub listing_count : length m ≡ 10553 → n ≡ length (take n m)
-  listing_count h = sym (length-take-le n m (omega (arith, p.within)))
-
-  pub listing_room : length m ≡ 10553 → n ≤ length out → 0 + length (take n m) ≤ length out
-  listing_room h g = omega (arith, listing_count h)
-
-  pub listed_none : length out < n → ◌≡◌ {A = ℕ × List ℕ} (0, out) (listed s out)
+module _ (s out m : List ℕ) (p : m ≡ listing s) where
+  pub listed_none : length out < length m → ◌≡◌ {A = ℕ × List ℕ} (0, out) (listed s out)
   unfolding listed
-  listed_none h = rw (lt-leb (length (listing s)) (length out) (omega (arith, p.next)))
+  listed_none h = rw (← p, lt-leb (length m) (length out) h)
 
-  pub listed_all : n ≤ length out → length l ≡ 10553 → (x : List ℕ) → x ≡ put out 0 (take n m) → ◌≡◌ {A = ℕ × List ℕ} (n, x) (listed s out)
+  pub fits_not : length out < length m → length (listing s) ≤ length out → ⊥
+  fits_not h g = omega (arith, ap length p)
+
+  pub listed_all : length m ≤ length out → (x : List ℕ) → x ≡ put out 0 m → ◌≡◌ {A = ℕ × List ℕ} (length m, x) (listed s out)
   unfolding listed
-  listed_all h g x e =
-      let c : n ≡ length (listing s) = omega (arith, p.next) in
-      let d : take n m ≡ listing s = rw p.bytes (part_put l (listing s) 0 n (sym c) (omega (arith, p.within))) in
-      rw (le-leb (length (listing s)) (length out) (omega arith), e, d, c)
+  listed_all h x e = rw (← p, le-leb (length m) (length out) h, e)
+
+  pub fits_all : length m ≤ length out → (length (listing s) ≤ length out) × (length m ≡ length (listing s))
+  fits_all h = (omega (arith, ap length p), ap length p)
 
 -- what is listed is within the output
 listed_fits : (s out : List ℕ) → (listed s out).0 ≤ length (listed s out).1

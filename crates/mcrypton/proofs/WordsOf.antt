@@ -78,6 +78,12 @@ pub bytes_four : (a : List ℕ) → length a ≡ 4
 unfolding bytes_of
 bytes_four a e = ap bytes_of (by_four a e)
 
+-- the same, from the two bytes of each word
+pub bytes_pairs : (a : List ℕ) → length a ≡ 4 → {w x y z : List ℕ} → w ≡ get_or a 0 0 / 256 ∷ get_or a 0 0 % 256 ∷ [] → x ≡ get_or a 1 0 / 256 ∷ get_or a 1 0 % 256 ∷ []
+    → y ≡ get_or a 2 0 / 256 ∷ get_or a 2 0 % 256 ∷ [] → z ≡ get_or a 3 0 / 256 ∷ get_or a 3 0 % 256 ∷ []
+    → get_or w 0 0 ∷ get_or w 1 0 ∷ get_or x 0 0 ∷ get_or x 1 0 ∷ get_or y 0 0 ∷ get_or y 1 0 ∷ get_or z 0 0 ∷ get_or z 1 0 ∷ [] ≡ bytes_of a
+bytes_pairs a n e₀ e₁ e₂ e₃ = rw (e₀, e₁, e₂, e₃) (bytes_four a n)
+
 pub words_bytes : (u : List ℕ) → words_of (bytes_of u) ≡ u
 unfolding words_of bytes_of
 words_bytes [] = refl

@@ -1,5 +1,6 @@
 pub mod Cipher
 pub mod Registers
+pub mod Walks
 pub mod Bytes
 pub mod Calls
 pub mod Claims

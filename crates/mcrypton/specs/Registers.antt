@@ -1,6 +1,6 @@
 -- For the contracts of inner functions and of the crate above: a block encrypted and decrypted from a register, with the steps of the register in sight.
-use Rattle.std.specs.Prelude.{◌≡◌, ℕ, ◌<◌, List}
-use Rattle.rounds.specs.Array.{φ, sboxes, tables}
+use Rattle.std.specs.Prelude.{ℕ, List}
+use Rattle.rounds.specs.Array.{φ}
 use Rattle.rounds.specs.declared.Direction.TheVariants.{Encrypt, Decrypt}
 use Rattle.schedule.specs.Schedule.{forward, backward, times, round_key}
 use Rattle.schedule.specs.declared.Register.{Register}
@@ -13,10 +13,3 @@ encrypt_from p u b = steps Encrypt p (λ r. round_key (times r forward u)) b
 -- u is the backward register's start
 unfoldable pub decrypt_from : ℕ → Register → List ℕ → List ℕ
 decrypt_from p u b = steps Decrypt p (λ r. φ (round_key (times r backward u))) b
-
--- what a round key is asked with: the tables, and the register v of round r
-pub record KeyAsked (s t : List (List ℕ)) (v : Register) (r : ℕ) : Type 0 where
-  pub boxes : s ≡ sboxes
-  pub words : t ≡ tables
-  pub known : v.round ≡ r
-  pub inside : r < 13

@@ -81,7 +81,7 @@ module _ (D : List ℕ → List ℕ) where
       (ap (λ (t : List ℕ). xor_bytes (D (take 8 s)) c ++ t) i)
 
   -- m blocks at a time: they are q, and b at place i is the last of them
-  pub decrypt_blocks : (m n : ℕ) (start s c b q out out' : List ℕ) (j i : ℕ) → ChainedTo (cbc_decrypt D) n start s c j out → j + m ≤ n → 8 * n ≤ length s → length c ≡ 8
+  decrypt_blocks : (m n : ℕ) (start s c b q out out' : List ℕ) (j i : ℕ) → ChainedTo (cbc_decrypt D) n start s c j out → j + m ≤ n → 8 * n ≤ length s → length c ≡ 8
       → q ≡ cbc_decrypt D m c (take (length s - 8 * j) (drop (8 * j) s)) → length q ≡ 8 * m → i + 8 ≡ 8 * j + 8 * m → 8 * j ≤ i → b ≡ part s i 8 → out' ≡ put out (8 * j) q → length out ≡ 8 * n
       → ChainedTo (cbc_decrypt D) n start s b (j + m) out'
   decrypt_blocks m n start s c b q out out' j i v l g h e z r w f o =
@@ -91,6 +91,14 @@ module _ (D : List ℕ → List ℕ) where
     where
       last : part (c ++ drop (8 * j) s) (8 * m) 8 ≡ b
       last = part_append_right c (drop (8 * j) s) (8 * m) (i - 8 * j) 8 (omega arith) ∙ ap (take 8) (drop-drop (i - 8 * j) (8 * j) s ∙ ap (λ (x : ℕ). drop x s) {x = 8 * j + (i - 8 * j)} {y = i} (omega arith)) ∙ sym f
+
+  -- the same, where the place of the first of them is a, and k blocks are done then
+  pub decrypt_blocks_at : (m n : ℕ) (start s c b q out out' : List ℕ) (j a i k : ℕ) → a ≡ 8 * j → k ≡ j + m → ChainedTo (cbc_decrypt D) n start s c j out → j + m ≤ n → 8 * n ≤ length s → length c ≡ 8
+      → q ≡ cbc_decrypt D m c (take (length s - a) (drop a s)) → length q ≡ 8 * m → i + 8 ≡ a + 8 * m → a ≤ i → b ≡ part s i 8 → out' ≡ put out a q → length out ≡ 8 * n
+      → ChainedTo (cbc_decrypt D) n start s b k out'
+  decrypt_blocks_at m n start s c b q out out' j a i k e f v l g h x z r w y p o =
+      rw f
+      (decrypt_blocks m n start s c b q out out' j i v l g h (x ∙ ap (λ (a : ℕ). cbc_decrypt D m c (take (length s - a) (drop a s))) e) z (omega arith) (omega arith) y (p ∙ ap (λ (a : ℕ). put out a q) e) o)
 
 -- texts of whole blocks
 no_blocks : ByteBlocks 0 []

@@ -13,42 +13,34 @@ use Rattle.rounds.specs.Array.{sboxes, sbox, γ, π, τ}
 use Rattle.schedule.specs.Schedule.{by_count, forward_words, forward4, forward6, forward8, forward, start, eight_words, times, register, constants, register_t, last_word, round_key, encryption_key}
 use Rattle.mcrypton.specs.Cipher.{by_words, after_by, steps, encrypt_block}
 use Rattle.mcrypton.specs.Bytes.{key_length, words_of, bytes_of, encrypt_bytes}
-use Rattle.octets.specs.BlockCalls.{Leaves}
+use Rattle.octets.specs.BlockCalls.{error_number, block_outcome, Leaves}
 use Rattle.mcrypton.proofs.KeyLengths.{reflects_length}
 use Rattle.modes.specs.Xor.{xor_bytes}
 use Rattle.modes.specs.Cmac.{shift_left, double, block_count, last_block, message_block, chain, cmac}
-use Rattle.modes.specs.Answers.{mac_number, mac_length, mac_outcome, authenticating}
+use Rattle.modes.specs.Answers.{authenticating}
 use Rattle.modes.specs.Refusals.{mac_clauses, MacCalls, MacRefusals}
-use Rattle.modes.specs.declared.MacAnswer.{MacAnswer}
-use Rattle.modes.specs.declared.MacAnswer.TheVariants.{Accepted, WrongKey, WrongSpan}
-
-no_length : (a : MacAnswer) → mac_length a ≡ 0
-unfolding mac_length
-no_length Accepted = refl
-no_length WrongKey = refl
-no_length WrongSpan = refl
 
 module _ (k m out : List ℕ) where
   mac_exactly : Exactly (authenticating k m out).number (mac_clauses k out)
-  unfolding authenticating mac_outcome mac_number mac_clauses Means
+  unfolding authenticating block_outcome mac_clauses Means
   mac_exactly =
-      decided_exactly mac_number (λ (o : Outcome). o.number) _ _ refl (λ a. refl) _ _
+      decided_exactly error_number (λ (o : Outcome). o.number) _ _ refl (λ a. refl) _ _
       (reflects_not (reflects_length (length k)), refl, λ t₁. (reflects_not (reflects_eqb (length out) 8), refl, λ t₃. tt))
 
   mac_refused : ((authenticating k m out).number ≡ 0 → ⊥) → Leaves (authenticating k m out) out
-  unfolding authenticating mac_outcome mac_number
+  unfolding authenticating block_outcome
   mac_refused =
-      decided_refused mac_number (λ (o : Outcome). o.number) _ _ refl (λ a. refl) (λ o. Leaves o out) (λ a h. record { len = no_length a; bytes_are = refl }) _
+      decided_refused error_number (λ (o : Outcome). o.number) _ _ refl (λ a. refl) (λ o. Leaves o out) (λ a h. record { len = refl; bytes_are = refl }) _
 
   mac_accepted : (authenticating k m out).number ≡ 0 → Leaves (authenticating k m out) (cmac (encrypt_bytes 0 k) m)
-  unfolding authenticating mac_outcome mac_number Refuses
+  unfolding authenticating block_outcome Refuses
   mac_accepted =
-      decided_zero mac_number (λ (o : Outcome). o.number) _ _ refl (λ a. refl) (λ o. Leaves o (cmac (encrypt_bytes 0 k) m))
-      (record { len = no_length Accepted; bytes_are = refl }) _ (λ e. omega (arith, e), ((λ e. omega (arith, e)), tt))
+      decided_zero error_number (λ (o : Outcome). o.number) _ _ refl (λ a. refl) (λ o. Leaves o (cmac (encrypt_bytes 0 k) m))
+      (record { len = refl; bytes_are = refl }) _ (λ e. omega (arith, e), ((λ e. omega (arith, e)), tt))
 
 -- by computing
 mac_calls : MacCalls
-unfolding rotate1 rotate sboxes sbox γ π τ by_count forward_words forward4 forward6 forward8 forward start eight_words times register constants register_t last_word round_key encryption_key by_words after_by steps encrypt_block words_of bytes_of encrypt_bytes xor_bytes shift_left double block_count last_block message_block chain cmac zeros authenticating mac_outcome mac_number mac_length decided key_length
+unfolding rotate1 rotate sboxes sbox γ π τ by_count forward_words forward4 forward6 forward8 forward start eight_words times register constants register_t last_word round_key encryption_key by_words after_by steps encrypt_block words_of bytes_of encrypt_bytes xor_bytes shift_left double block_count last_block message_block chain cmac zeros authenticating block_outcome decided key_length
 mac_calls = record { mac_4 = refl; mac_6 = refl; mac_8 = refl; empty = refl; wrong_key_lem = refl; wrong_span = refl }
 
 pub mac_refusals : MacRefusals

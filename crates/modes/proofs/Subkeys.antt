@@ -10,28 +10,15 @@ use borrow.Author.Tests.{eq-eqb, ne_eqb, eqb-true, eqb-false, lt-ltb, le-ltb}
 use lib.Dec.{lit<, eqb, ltb}
 use lib.ListN.{length, get_or, set, replicate, length-append}
 use lib.Seq.{set_at}
-use Rattle.octets.specs.Bytes.{Bytes, none, more, number, zeros, part, put, if◌then◌otherwise◌}
-use Rattle.octets.proofs.EveryByte.{append_bytes, bytes_at}
-use Rattle.octets.proofs.Parts.{part_all, tab_all}
+use Rattle.octets.specs.Bytes.{Bytes, none, more, be, number, zeros, part, put, if◌then◌otherwise◌}
+use Rattle.octets.proofs.EveryByte.{append_bytes, bytes_at, bytes_of}
+use Rattle.octets.proofs.Numbers.{number_lt, be_number}
+use Rattle.octets.proofs.Parts.{part_all}
 use Rattle.octets.proofs.Zeros.{length_zeros, zeros_bytes, drop_zeros}
 use Rattle.octets.specs.Block.{ByteBlock}
 use Rattle.modes.specs.Xor.{xor_bytes}
 use Rattle.modes.specs.Cmac.{shift_left, R64, double, L, K1, K2, last_block}
 use Rattle.modes.proofs.Xor.{xor_block}
-
--- a block shifted, from its bytes
-pub shift_eight : (b : List ℕ) → length b ≡ 8 → (r0 r1 r2 r3 r4 r5 r6 r7 : ℕ)
-    → r0 ≡ get_or b 0 0 % 128 * 2 + get_or b 1 0 / 128
-    → r1 ≡ get_or b 1 0 % 128 * 2 + get_or b 2 0 / 128
-    → r2 ≡ get_or b 2 0 % 128 * 2 + get_or b 3 0 / 128
-    → r3 ≡ get_or b 3 0 % 128 * 2 + get_or b 4 0 / 128
-    → r4 ≡ get_or b 4 0 % 128 * 2 + get_or b 5 0 / 128
-    → r5 ≡ get_or b 5 0 % 128 * 2 + get_or b 6 0 / 128
-    → r6 ≡ get_or b 6 0 % 128 * 2 + get_or b 7 0 / 128
-    → r7 ≡ get_or b 7 0 % 128 * 2 + 0 / 128
-    → r0 ∷ r1 ∷ r2 ∷ r3 ∷ r4 ∷ r5 ∷ r6 ∷ r7 ∷ [] ≡ shift_left b
-unfolding shift_left
-shift_eight b e r0 r1 r2 r3 r4 r5 r6 r7 e0 e1 e2 e3 e4 e5 e6 e7 = rw (e0, e1, e2, e3, e4, e5, e6, e7) (ap shift_left (sym (tab_all 8 b e)))
 
 module _ (b s : List ℕ) (e : s ≡ shift_left b) where
   pub double_low : get_or b 0 0 < 128 → s ≡ double b
@@ -71,6 +58,21 @@ shift_left_doubles (x ∷ s) =
     rw (length_shift s, pow-suc 256 (length s))
     (omega (arith, shift_left_doubles s, p, add-mul (x % 128 * 2) (get_or s 0 0 / 128) w, mul_right_comm (x % 128) 2 w, mul_right_comm (x / 128) 128 w))
 
+pub shift_bytes : {b : List ℕ} → Bytes b → Bytes (shift_left b)
+unfolding shift_left
+shift_bytes none = none
+shift_bytes (more {x} {s} h b) = more {x = x % 128 * 2 + get_or s 0 0 / 128} (omega (arith, bytes_at s 0 b)) (shift_bytes b)
+
+-- a block shifted as a number
+pub shift_eight : (b : List ℕ) (n : ℕ) → length b ≡ 8 → ((i : ℕ) → get_or b i 0 < 256) → n ≡ number b → be 8 (n * 2 % 2 ^ 64) ≡ shift_left b
+shift_eight b n l h e =
+    let t : Bytes (shift_left b) = shift_bytes (bytes_of b (λ i g. h i)) in
+    let m : length (shift_left b) ≡ 8 = length_shift b ∙ l in
+    let f : number (shift_left b) < 256 ^ 8 = rw m at (number_lt t) in
+    let d : number (shift_left b) + get_or b 0 0 / 128 * 256 ^ 8 ≡ number b * 2 = rw l at (shift_left_doubles b) in
+    let q : n * 2 % 2 ^ 64 ≡ number (shift_left b) = omega (arith, e, d, f) in
+    rw q (ap (λ (k : ℕ). be k (number (shift_left b))) (sym m) ∙ be_number t)
+
 -- a part block, padded
 padded : (s : List ℕ) → length s ≤ 8 → (length s ≡ 8 → ⊥) → set (put (zeros 8) 0 s) (length s) 0x80 ≡ s ++ (0x80 ∷ zeros (7 - length s))
 unfolding put zeros
@@ -102,11 +104,6 @@ module _ (s : List ℕ) (t : Bool) (e : t ≡ eqb (length s) 8) where
     last_padded h l f g = g ∙ rw (← e, h, f) (ap (xor_bytes k2) (padded s l (short h)))
 
 -- each gives a block
-pub shift_bytes : {b : List ℕ} → Bytes b → Bytes (shift_left b)
-unfolding shift_left
-shift_bytes none = none
-shift_bytes (more {x} {s} h b) = more {x = x % 128 * 2 + get_or s 0 0 / 128} (omega (arith, bytes_at s 0 b)) (shift_bytes b)
-
 shift_block : {b : List ℕ} → ByteBlock b → ByteBlock (shift_left b)
 shift_block {b} h = record { size = length_shift b ∙ h.size; bytes = shift_bytes h.bytes }
 

@@ -1,29 +1,33 @@
 -- Laws of the exclusive or of bytes.
 use mathlib.Core.Path.{◌≡◌, refl, sym, ap, ap₂, ◌∙◌}
 use mathlib.Core.List.{List, [], ◌∷◌}
-use Prim.Native.Nat.{ℕ, suc}
+use Prim.Native.Nat.{ℕ, zero, suc, ◌<◌}
 use native.Mathlib.Omega.{arith}
 use lib.Bits.{bit_xor, xor_lt}
 use lib.ListN.{length, get_or}
 use Rattle.octets.specs.Bytes.{Bytes, none, more}
-use Rattle.octets.proofs.Parts.{tab_all}
+use Rattle.std.proofs.lemmas.List.{ext_get_or}
 use Rattle.octets.proofs.Xor.{xor_cancel}
 use Rattle.octets.specs.Block.{ByteBlock}
 use Rattle.modes.specs.Xor.{xor_bytes}
-
--- two blocks, written out
-pub xor_eight : (x y : List ℕ) → length x ≡ 8 → length y ≡ 8
-    → bit_xor (get_or x 0 0) (get_or y 0 0) ∷ bit_xor (get_or x 1 0) (get_or y 1 0) ∷ bit_xor (get_or x 2 0) (get_or y 2 0) ∷ bit_xor (get_or x 3 0) (get_or y 3 0)
-    ∷ bit_xor (get_or x 4 0) (get_or y 4 0) ∷ bit_xor (get_or x 5 0) (get_or y 5 0) ∷ bit_xor (get_or x 6 0) (get_or y 6 0) ∷ bit_xor (get_or x 7 0) (get_or y 7 0) ∷ []
-    ≡ xor_bytes x y
-unfolding xor_bytes
-xor_eight x y e f = ap₂ xor_bytes (sym (tab_all 8 x e)) (sym (tab_all 8 y f))
 
 pub length_xor : (x y : List ℕ) → length x ≡ length y → length (xor_bytes x y) ≡ length x
 unfolding xor_bytes
 length_xor [] y h = refl
 length_xor (a ∷ x) [] h = sym h
 length_xor (a ∷ x) (b ∷ y) h = ap suc (length_xor x y (omega arith))
+
+xor_at : (x y : List ℕ) (i : ℕ) → i < length x → i < length y → get_or (xor_bytes x y) i 0 ≡ bit_xor (get_or x i 0) (get_or y i 0)
+unfolding xor_bytes
+xor_at [] y i h g = absurd (omega arith)
+xor_at (a ∷ x) [] i h g = absurd (omega arith)
+xor_at (a ∷ x) (b ∷ y) zero h g = refl
+xor_at (a ∷ x) (b ∷ y) (suc i) h g = xor_at x y i (omega arith) (omega arith)
+
+-- two blocks, byte by byte
+pub xor_eight : (x y z : List ℕ) → length x ≡ 8 → length y ≡ 8 → length z ≡ 8 → ((i : ℕ) → i < 8 → get_or z i 0 ≡ bit_xor (get_or x i 0) (get_or y i 0)) → z ≡ xor_bytes x y
+xor_eight x y z e f g h =
+    ext_get_or 0 z (xor_bytes x y) (g ∙ sym (length_xor x y (e ∙ sym f) ∙ e)) (λ i l. h i (omega arith) ∙ sym (xor_at x y i (omega arith) (omega arith)))
 
 pub xor_bytes_lem : {x y : List ℕ} → Bytes x → Bytes y → Bytes (xor_bytes x y)
 unfolding xor_bytes

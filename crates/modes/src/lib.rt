@@ -1,28 +1,26 @@
 // CBC of NIST SP 800-38A and CMAC of NIST SP 800-38B over a cipher with a block of 64 bits.
 #![tactic(auto)]
 
-ghost use Rattle.std.specs.Prelude.{◌≡◌, List, ◌++◌, ℕ, ◌+◌, ◌-◌, ◌*◌, ◌/◌, ◌%◌, ◌≤◌, ◌<◌, eqb, length};
+ghost use Rattle.std.specs.Prelude.{◌≡◌, List, ◌++◌, ℕ, ◌+◌, ◌-◌, ◌*◌, ◌/◌, ◌≤◌, ◌<◌, eqb, length};
 ghost use Rattle.octets.specs.Bytes.{put, zeros};
+ghost use Rattle.octets.specs.BlockCalls.{block_outcome};
 ghost use Rattle.cipher.specs.Key.{encrypted, decrypted};
 ghost use Rattle.modes.specs.Xor.{xor_bytes};
 ghost use Rattle.modes.specs.Cbc.{cbc_encrypt, cbc_decrypt};
 ghost use Rattle.modes.specs.Cmac.{shift_left, double, L, K1, K2, block_count, last_block, message_block, chain_value, cmac};
 ghost use Rattle.modes.specs.Steps.{TwoParts, BlocksIn};
-ghost use Rattle.modes.specs.Answers.{mac_outcome, authenticating};
+ghost use Rattle.modes.specs.Answers.{authenticating};
+
+use octets::BlockError;
 
 pub fn xor_block(x: [u8; 8], y: [u8; 8]) -> [u8; 8]
     ensures { result ≡ xor_bytes x y }
 {
-    [
-        x[0] ^ y[0],
-        x[1] ^ y[1],
-        x[2] ^ y[2],
-        x[3] ^ y[3],
-        x[4] ^ y[4],
-        x[5] ^ y[5],
-        x[6] ^ y[6],
-        x[7] ^ y[7],
-    ]
+    let mut z = x;
+    for (i, b) in y.iter().enumerate() {
+        z[i] ^= *b;
+    }
+    z
 }
 
 // CBC of whole blocks, from a start block.
@@ -33,12 +31,9 @@ pub fn cbc_encrypt(k: cipher::Key, start: [u8; 8], p: &[u8], out: &mut [u8])
 {
     let n = p.len() / 8;
     let mut c = start;
-    let mut j = 0;
-    while j < n {
-        let next = cipher::encrypt(k, xor_block(octets::block_at(p, 8 * j), c));
-        octets::copy_part(out, 8 * j, &next);
-        c = next;
-        j += 1;
+    for j in 0..n {
+        c = cipher::encrypt(k, xor_block(octets::block_at(p, 8 * j), c));
+        octets::copy_part(out, 8 * j, &c);
     }
 }
 
@@ -68,63 +63,43 @@ fn decrypt_field(k: cipher::Key, c: [u8; 8], s: &[u8], out: &mut [u8])
 {
     let d = cipher::decrypt_blocks(k, s);
     let mut before = c;
-    let mut i = 0;
-    while i < 24 {
-        let x = d[i];
-        put_plain(out, 8 * i, x, before);
+    for (i, x) in d.iter().enumerate() {
+        put_plain(out, 8 * i, *x, before);
         let next = octets::block_at(s, 8 * i);
         before = next;
-        i += 1;
     }
 }
 
-// A field a turn, and the rest one by one.
+// As many fields as there are whole, and then the rest block by block.
 pub fn cbc_decrypt(k: cipher::Key, start: [u8; 8], s: &[u8], out: &mut [u8])
     requires s_len { length s.now ≡ length out.old }
     requires s_len_2 { length s.now ≡ 8 * (length s.now / 8) }
     ensures { out.new ≡ cbc_decrypt (decrypted k) (length s.now / 8) start s.now }
 {
     let n = s.len() / 8;
+    let fields = n / 24;
     let mut before = start;
-    let mut j = 0;
-    while j < n {
+    for i in 0..fields {
+        let a = 192 * i;
+        decrypt_field(k, before, &s[a..], &mut out[a..a + 192]);
+        let last = octets::block_at(s, a + 184);
+        before = last;
+    }
+    for j in 24 * fields..n {
         let a = 8 * j;
-        if j + 24 <= n {
-            decrypt_field(k, before, &s[a..], &mut out[a..a + 192]);
-            let last = octets::block_at(s, a + 184);
-            before = last;
-            j += 24;
-        } else {
-            decrypt_one(k, before, &s[a..], &mut out[a..a + 8]);
-            let last = octets::block_at(s, a);
-            before = last;
-            j += 1; // of the rest
-        }
+        decrypt_one(k, before, &s[a..], &mut out[a..a + 8]);
+        let last = octets::block_at(s, a);
+        before = last;
     }
 }
 
 // ---- CMAC: the steps of SP 800-38B, 6.1 and 6.2, in their order and by their names. The message M is head ‖ rest, so that none of it is copied.
 
-// A byte shifted left by one bit, with the top bit of the byte after it.
-fn shifted(x: u8, y: u8) -> u8
-    ensures { result ≡ x % 128 * 2 + y / 128 }
-{
-    x % 128 * 2 + y / 128
-}
-
+// X << 1 (SP 800-38B, 4.2).
 fn shift_left(b: [u8; 8]) -> [u8; 8]
     ensures { result ≡ shift_left b }
 {
-    [
-        shifted(b[0], b[1]),
-        shifted(b[1], b[2]),
-        shifted(b[2], b[3]),
-        shifted(b[3], b[4]),
-        shifted(b[4], b[5]),
-        shifted(b[5], b[6]),
-        shifted(b[6], b[7]),
-        shifted(b[7], 0),
-    ]
+    (u64::from_be_bytes(b) << 1).to_be_bytes()
 }
 
 // The next subkey (SP 800-38B, 6.1, steps 2 and 3): b << 1, and R_64 added where the top bit of b is 1.
@@ -133,9 +108,10 @@ fn double_block(b: [u8; 8]) -> [u8; 8]
 {
     let s = shift_left(b);
     if b[0] < 128 {
-        return s;
+        s
+    } else {
+        xor_block(s, [0, 0, 0, 0, 0, 0, 0, 0x1b])
     }
-    xor_block(s, [0, 0, 0, 0, 0, 0, 0, 0x1b])
 }
 
 // What 6.1 makes of a key: L, and the subkeys K1 and K2.
@@ -163,10 +139,7 @@ pub fn block_count(head: &[u8], rest: &[u8]) -> usize
     ensures { result ≡ block_count (head.now ++ rest.now) }
 {
     let len = head.len() + rest.len();
-    if len == 0 {
-        return 1;
-    }
-    (len - 1) / 8 + 1
+    if len == 0 { 1 } else { (len - 1) / 8 + 1 }
 }
 
 // Whether s is a complete block.
@@ -240,9 +213,7 @@ fn mac(k: cipher::Key, head: &[u8], rest: &[u8]) -> [u8; 8]
     requires { TwoParts head.now rest.now }
     ensures { result ≡ cmac (encrypted k) (head.now ++ rest.now) }
 {
-    let subkeys = generate_subkeys(k); // step 1: the subkeys, by 6.1
-    let k1 = subkeys.k1; // step 1: K1
-    let k2 = subkeys.k2; // step 1: K2
+    let SubkeySet { k1, k2, .. } = generate_subkeys(k); // step 1: K1 and K2, by 6.1
     let n = block_count(head, rest); // step 2: n
     let h = head.len() / 8; // step 3: M_1 to M_h are head, M_{h+1} to M_{n-1} begin rest
     let a = 8 * (n - 1 - h); // step 3: and M_n* is rest from place a on
@@ -268,25 +239,16 @@ pub fn mac_one(k: cipher::Key, b: [u8; 8]) -> [u8; 8]
     mac(k, b"", &b)
 }
 
-#[derive(Clone, Copy)]
-pub enum MacAnswer {
-    Accepted,
-    WrongKey,
-    WrongSpan,
-}
-
 // CMAC of a message of any length, 0 too.
-pub fn cmac(key: &[u8], message: &[u8], out: &mut [u8]) -> MacAnswer
-    ensures { mac_outcome result out.new ≡ authenticating key.now message.now out.old }
+pub fn cmac(key: &[u8], message: &[u8], out: &mut [u8]) -> Result<(), BlockError>
+    ensures { block_outcome result out.new ≡ authenticating key.now message.now out.old }
 {
     if !mcrypton::key_length(key.len()) {
-        return MacAnswer::WrongKey;
+        return Err(BlockError::WrongKey);
     }
     if out.len() != 8 {
-        return MacAnswer::WrongSpan;
+        return Err(BlockError::WrongSpan);
     }
     let k = cipher::load(key.len() / 2, key);
-    let c = mac(k, b"", message);
-    octets::copy_part(out, 0, &c);
-    MacAnswer::Accepted
+    octets::put_block(mac(k, b"", message), out)
 }

@@ -2,7 +2,7 @@
 use mathlib.Core.Path.{◌≡◌, refl, sym, ap, ap₂, ◌∙◌}
 use mathlib.Core.List.{List, [], ◌∷◌}
 use mathlib.Core.Bool.{Bool, true, false, ◌&&◌, and_assoc, and-true, false≢true}
-use Prim.Native.Nat.{ℕ, zero, suc, ◌+◌, ◌≤◌, ◌<◌}
+use Prim.Native.Nat.{ℕ, zero, suc, ◌+◌, ◌<◌}
 use native.Mathlib.Nat.{not-suc-le-zero}
 use native.Mathlib.Decide.{dec_lt}
 use native.Mathlib.Numerals.{add-one}
@@ -10,10 +10,9 @@ use native.Mathlib.Omega.{arith}
 use borrow.Author.Tests.{eqb-true, eq-eqb}
 use lib.Bits.{bit_or, bit_xor}
 use lib.Dec.{eqb}
-use lib.ListN.{length, get_or, drop, drop_of_length-le}
+use lib.ListN.{length}
 use Rattle.octets.specs.Bytes.{same, all_below}
 use Rattle.octets.proofs.Bool.{and_left, and_right, and_both, and_false_right}
-use Rattle.octets.proofs.Parts.{drop_next}
 use Rattle.octets.proofs.Xor.{eqb_or, eqb_xor}
 
 pub same_self : (s : List ℕ) → same s s ≡ true
@@ -42,19 +41,18 @@ same_differ s t d = go (same s t) refl
 pub same_length : (s t : List ℕ) → (length s ≡ length t → ⊥) → false ≡ same s t
 same_length s t h = sym (same_differ s t (λ e. h (ap length e)))
 
--- the differences gathered in x up to place i: one more, and all
-pub same_next : (s t : List ℕ) (x i : ℕ) → i < length s → length s ≡ length t → eqb x 0 && same (drop i s) (drop i t) ≡ same s t
-    → eqb (bit_or x (bit_xor (get_or s i 0) (get_or t i 0))) 0 && same (drop (i + 1) s) (drop (i + 1) t) ≡ same s t
+-- the differences gathered in x, and the bytes still to come: one more of each
+pub same_next : (s t u v : List ℕ) (x y z : ℕ) (r : Bool) → s ≡ y ∷ u → t ≡ z ∷ v → eqb x 0 && same s t ≡ r → eqb (bit_or x (bit_xor y z)) 0 && same u v ≡ r
 unfolding same
-same_next s t x i h l v =
-    rw (eqb_or x (bit_xor (get_or s i 0) (get_or t i 0)), eqb_xor (get_or s i 0) (get_or t i 0), and_assoc (eqb x 0) (eqb (get_or s i 0) (get_or t i 0)) (same (drop (i + 1) s) (drop (i + 1) t)))
-    (ap₂ (λ (u w : List ℕ). eqb x 0 && same u w) (sym (drop_next s i h)) (sym (drop_next t i (omega arith))) ∙ v)
+same_next s t u v x y z r e f h =
+    rw (eqb_or x (bit_xor y z), eqb_xor y z, and_assoc (eqb x 0) (eqb y z) (same u v))
+    (ap₂ (λ (a b : List ℕ). eqb x 0 && same a b) (sym e) (sym f) ∙ h)
 
-pub same_end : (s t : List ℕ) (x i : ℕ) → length s ≤ i → length s ≡ length t → eqb x 0 && same (drop i s) (drop i t) ≡ same s t → eqb x 0 ≡ same s t
+pub same_end : (s t : List ℕ) (x : ℕ) (r : Bool) → length s ≡ 0 → length s ≡ length t → eqb x 0 && same s t ≡ r → eqb x 0 ≡ r
 unfolding same
-same_end s t x i h l v =
-    let g : length t ≤ i = omega arith in
-    sym (and-true (eqb x 0)) ∙ (rw (drop_of_length-le s h, drop_of_length-le t g) at v)
+same_end [] [] x r h l v = sym (and-true (eqb x 0)) ∙ v
+same_end [] (z ∷ t) x r h l v = absurd (omega arith)
+same_end (y ∷ s) t x r h l v = absurd (omega arith)
 
 -- tests at each number below a bound
 module _ (p : ℕ → Bool) where

@@ -1,17 +1,20 @@
 -- Numbers and the bytes that spell them, high byte first.
 use mathlib.Core.Path.{◌≡◌, refl, sym, ap, ap₂, ◌∙◌, subst}
 use mathlib.Core.List.{List, [], ◌∷◌, ◌++◌}
-use Prim.Native.Nat.{ℕ, zero, suc, ◌+◌, ◌*◌, ◌/◌, ◌%◌, ◌^◌, ◌≤◌, ◌<◌}
-use native.Mathlib.Nat.{mod-lt, mod-eq_of_lt, mod-one, pow-suc, pow-succ', mul_assoc, add-mul, add_assoc, div-one}
+use Prim.Native.Nat.{ℕ, zero, suc, ◌+◌, ◌-◌, ◌*◌, ◌/◌, ◌%◌, ◌^◌, ◌≤◌, ◌<◌}
+use native.Mathlib.Nat.{mod-lt, mod-eq_of_lt, mod-one, pow-suc, pow-succ', pow-le-pow_right, mul_assoc, add-mul, add_assoc, div-one}
 use native.Mathlib.Numerals.{add-one}
 use native.Mathlib.Omega.{arith}
 use lib.Arith.{mod-mul, digits_lt, digits_div, digits_mod}
 use lib.Dec.{lit<}
-use lib.ListN.{length, get_or, length-append}
+use lib.ListN.{length, get_or, take, drop, length-append}
+use Rattle.std.proofs.Common.{Fits, w8}
+use Rattle.std.proofs.lemmas.List.{take_all}
+use lib.Seq.{take-suc}
 use lib.Pow.{pow-add}
 use Rattle.octets.specs.Bytes.{Bytes, none, more, be, number, part, zeros}
 use Rattle.octets.proofs.EveryByte.{part_bytes}
-use Rattle.octets.proofs.Parts.{length_part, part_add, tab_part}
+use Rattle.octets.proofs.Parts.{length_part, get_or_part, part_add, part_span, length_span, tab_part}
 use Rattle.octets.proofs.Zeros.{length_zeros, zeros_bytes}
 
 pub pow256_pos : (k : ℕ) → 0 < 256 ^ k
@@ -109,17 +112,37 @@ number_four s a h =
     let q : get_or s (a + 2 + 1) 0 ≡ get_or s (a + 3) 0 = ap (λ (k : ℕ). get_or s k 0) {x = a + 2 + 1} {y = a + 3} (omega arith) in
     omega (arith, number_parts s a 2 2 (omega arith), number_two s a (omega arith), number_two s (a + 2) (omega arith))
 
--- the same of numbers read before
-pub number_two_read : (s : List ℕ) (a x y : ℕ) → a + 2 ≤ length s → x ≡ get_or s a 0 → y ≡ get_or s (a + 1) 0 → x * 256 + y ≡ number (part s a 2)
-number_two_read s a x y h p q = ap₂ (λ (u v : ℕ). u * 256 + v) p q ∙ sym (number_two s a h)
+-- the n bytes of s from place a, read one by one: x is the number that the first i of them spell
+module _ (s : List ℕ) (a n : ℕ) (inside : a + n ≤ length s) (fits : (k : ℕ) → Fits w8 (get_or s k 0)) (i x : ℕ) where
+  abbrev pub taken : List ℕ
+  taken = take ((a + n) - a) (drop a s)
 
-pub number_four_read : (s : List ℕ) (a x y : ℕ) → a + 4 ≤ length s → x ≡ number (part s a 2) → y ≡ number (part s (a + 2) 2) → x * 65536 + y ≡ number (part s a 4)
-number_four_read s a x y h p q = ap₂ (λ (u v : ℕ). u * 65536 + v) p q ∙ sym (number_parts s a 2 2 (omega arith))
+  module _ (more : i < length taken) where
+    below : i < n
+    below = rw (← length_span s a n inside) more
 
-pub number_eight_read : (s : List ℕ) (a x y : ℕ) → a + 8 ≤ length s → x ≡ number (part s a 4) → y ≡ number (part s (a + 4) 4) → x * 0x100000000 + y ≡ number (part s a 8)
-number_eight_read s a x y h p q = ap₂ (λ (u v : ℕ). u * 0x100000000 + v) p q ∙ sym (number_parts s a 4 4 (omega arith))
+    byte_fits : get_or taken i 0 < 256
+    byte_fits = rw (part_span s a n, get_or_part s a n i below) (omega (arith, fits (a + i)))
 
--- the low two, four and eight bytes, written out
+    -- one byte more
+    pub number_next : x ≡ number (take i taken) → x * 256 + get_or taken i 0 ≡ number (take (i + 1) taken)
+    unfolding number
+    number_next e = rw (add-one, take-suc taken i 0 more, number_append (take i taken) (get_or taken i 0 ∷ []), ← e) (omega arith)
+
+    pub number_below : x < 256 ^ i → x * 256 + get_or taken i 0 < 256 ^ (i + 1)
+    number_below h = rw add-one (omega (arith, pow-suc 256 i, byte_fits))
+
+    pub number_fits : n ≤ 8 → x < 256 ^ i → x * 256 + get_or taken i 0 < 2 ^ 64
+    number_fits g h = omega (arith, number_below h, pow-le-pow_right {n = 256} (lit< tt) {i = i + 1} {j = 8} (omega (arith, below)))
+
+  -- all of them
+  pub number_all : i ≤ length taken → length taken ≤ i → x ≡ number (take i taken) → x ≡ number (part s a n)
+  number_all h g e = e ∙ ap number (take_all i taken g ∙ part_span s a n)
+
+  pub number_small : i ≤ length taken → length taken ≤ i → x < 256 ^ i → x < 256 ^ n
+  number_small h g l = let q : i ≡ n = omega (arith, length_span s a n inside) in rw (← q) l
+
+-- the low two and four bytes, written out
 pub be_two : (x : ℕ) → x / 256 % 256 ∷ x % 256 ∷ [] ≡ be 2 x
 unfolding be
 be_two x = sym (rw div-one)
@@ -128,13 +151,15 @@ pub be_four : (x : ℕ) → x / 16777216 % 256 ∷ x / 65536 % 256 ∷ x / 256 %
 unfolding be
 be_four x = sym (rw div-one)
 
-pub be_eight : (x : ℕ)
-    → x / 0x100000000000000 % 256 ∷ x / 0x1000000000000 % 256 ∷ x / 0x10000000000 % 256 ∷ x / 0x100000000 % 256
-    ∷ x / 0x1000000 % 256 ∷ x / 0x10000 % 256 ∷ x / 0x100 % 256 ∷ x % 256 ∷ [] ≡ be 8 x
-unfolding be
-be_eight x = sym (rw div-one)
+-- byte i of the low n bytes of x, as a shift gives it
+pub pow256 : (k : ℕ) → 256 ^ k ≡ 2 ^ (8 * k)
+pow256 zero = refl
+pow256 (suc k) =
+    let q : 8 * suc k ≡ 8 * k + 8 = omega arith in
+    rw (q, pow-add 2 (8 * k) 8, pow-suc 256 k, pow256 k)
 
-pub be_four_two_two : (x y z : ℕ)
-    → x / 16777216 % 256 ∷ x / 65536 % 256 ∷ x / 256 % 256 ∷ x % 256 ∷ y / 256 % 256 ∷ y % 256 ∷ z / 256 % 256 ∷ z % 256 ∷ []
-    ≡ be 4 x ++ (be 2 y ++ be 2 z)
-be_four_two_two x y z = rw (← be_four x, ← be_two y, ← be_two z)
+pub be_at : (n x i : ℕ) → i < n → x / 2 ^ (8 * (n - 1 - i)) % 256 ≡ get_or (be n x) i 0
+unfolding be
+be_at zero x i h = absurd (omega arith)
+be_at (suc n) x zero h = let q : suc n - 1 - 0 ≡ n = omega arith in rw (q, ← pow256 n)
+be_at (suc n) x (suc i) h = let q : suc n - 1 - suc i ≡ n - 1 - i = omega arith in rw q (be_at n x i (omega arith))

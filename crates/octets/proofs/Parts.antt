@@ -5,9 +5,8 @@ use Prim.Native.Nat.{ℕ, zero, suc, ◌+◌, ◌-◌, ◌≤◌, ◌<◌}
 use native.Mathlib.Nat.{add-zero, sub-zero}
 use native.Mathlib.Numerals.{add-one}
 use native.Mathlib.Omega.{arith}
-use lib.Dec.{lit<}
 use lib.ListN.{length, get_or, take, drop, set, length-append, length-take, length-drop, take-append-drop, drop_of_length-le, get_or-append}
-use lib.Seq.{set_split, drop-cons, drop-drop, take-nil, take-add, take_at, drop_at, take-take, length-take-le, take-length, take_all, take-append-le, drop-append-le, drop-append-add, paste, paste-suc, get_or-take, get_or-drop}
+use lib.Seq.{set_split, drop-cons, drop-drop, take-nil, take-add, take_at, drop_at, take-take, length-take-le, take_all, take-append-le, drop-append-le, drop-append-add, get_or-take, get_or-drop}
 use Rattle.octets.specs.Bytes.{part, put}
 
 -- what is left of a list from a place within it
@@ -182,15 +181,6 @@ pub set_put : (s : List ℕ) (i v : ℕ) → i < length s → set s i v ≡ put 
 unfolding put
 set_put s i v h = rw add-one (set_split s i v h)
 
--- a copy of xs into s from place a, of which j elements are done
-module _ (s xs : List ℕ) (a : ℕ) where
-  pub copy_more : (d : List ℕ) (j : ℕ) → d ≡ paste s a xs j → j < length xs → a + length xs ≤ length s → set d (a + j) (get_or xs j 0) ≡ paste s a xs (j + 1)
-  copy_more d j e l h = rw (e, add-one) (paste-suc s a xs j 0 (omega arith) l)
-
-  pub copy_done : (d : List ℕ) (j : ℕ) → d ≡ paste s a xs j → j ≤ length xs → length xs ≤ j → d ≡ put s a xs
-  unfolding put
-  copy_done d j e l g = let q : j ≡ length xs = omega arith in e ∙ rw (q, take-length, append_assoc)
-
 -- n elements of s from place a, written out: at a numeral n this computes to the list of the elements
 abbrev pub tab : ℕ → ℕ → List ℕ → List ℕ
 tab zero a s = []
@@ -202,12 +192,3 @@ tab_part (suc n) a s h = rw (drop-cons s a 0 (omega arith)) (ap (λ l. get_or s 
 
 pub tab_all : (n : ℕ) (s : List ℕ) → length s ≡ n → s ≡ tab n 0 s
 tab_all n s e = sym (tab_part n 0 s (omega arith) ∙ take_all n s (omega arith))
-
--- the 8 elements from place a, read one by one
-pub block_part : (s : List ℕ) (a : ℕ) → a + 8 ≤ length s
-    → get_or s a 0 ∷ get_or s (a + 1) 0 ∷ get_or s (a + 2) 0 ∷ get_or s (a + 3) 0 ∷ get_or s (a + 4) 0 ∷ get_or s (a + 5) 0 ∷ get_or s (a + 6) 0 ∷ get_or s (a + 7) 0 ∷ []
-    ≡ part s a 8
-block_part s a h =
-    let at : (k : ℕ) → k < 8 → get_or (part s a 8) k 0 ≡ get_or s (a + k) 0 = get_or_part s a 8 in
-    sym (tab_all 8 (part s a 8) (length_part s a 8 h)
-    ∙ rw (at 0 (lit< tt), at 1 (lit< tt), at 2 (lit< tt), at 3 (lit< tt), at 4 (lit< tt), at 5 (lit< tt), at 6 (lit< tt), at 7 (lit< tt), add-zero))

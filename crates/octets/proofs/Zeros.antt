@@ -1,15 +1,14 @@
 -- Lists of zeros, and the test that every byte is zero.
 use mathlib.Core.Path.{◌≡◌, refl, sym, ap, ap₂, ◌∙◌}
-use mathlib.Core.List.{List, [], ◌∷◌, ◌++◌, append-nil}
+use mathlib.Core.List.{List, [], ◌∷◌, ◌++◌}
 use mathlib.Core.Bool.{Bool, true, ◌&&◌, and_assoc, and-true}
 use Prim.Native.Nat.{ℕ, zero, suc, ◌+◌, ◌-◌, ◌≤◌, ◌<◌}
 use native.Mathlib.Nat.{sub-zero}
 use native.Mathlib.Omega.{arith}
-use borrow.Author.Fill.{fill_more}
 use borrow.Author.Tests.{eqb-true}
 use lib.Bits.{bit_or}
 use lib.Dec.{eqb, lit<}
-use lib.ListN.{length, get_or, take, drop, set, replicate, length-replicate, replicate-append-replicate, drop_of_length-le}
+use lib.ListN.{length, get_or, take, drop, length-replicate, replicate-append-replicate, drop_of_length-le}
 use Rattle.octets.specs.Bytes.{Bytes, none, more, zeros, part, put, all_zero}
 use Rattle.octets.proofs.Bool.{and_left, and_right}
 use Rattle.octets.proofs.Parts.{drop_next, length_span, put_span}
@@ -78,17 +77,6 @@ all_zero_part s a n h e =
     ap (λ (l : List ℕ). all_zero (part l a n)) (all_zero_is s e)
     ∙ ap all_zero (part_zeros (length s) a n h)
     ∙ all_zero_zeros n
-
--- a fill with zeros that has reached place i: one more, and all
-pub fill_next : (s d : List ℕ) (i : ℕ) → s ≡ replicate i 0 ++ drop i d → length s ≡ length d → i < length s → set s i 0 ≡ replicate (i + 1) 0 ++ drop (i + 1) d
-fill_next s d i e l h = rw e (fill_more i 0 d (omega arith))
-
-pub filled : (s d : List ℕ) (i : ℕ) → s ≡ replicate i 0 ++ drop i d → length s ≡ length d → i ≤ length d → length s ≤ i → s ≡ zeros (length d)
-unfolding zeros
-filled s d i e l f g =
-    let q : i ≡ length d = omega arith in
-    let h : length d ≤ i = omega arith in
-    e ∙ rw (drop_of_length-le d h, append-nil, q)
 
 -- a part `s[a..a + n]` that comes back as zeros
 pub zero_span : (s ys : List ℕ) (a n : ℕ) → a + n ≤ length s → ys ≡ zeros (length (take ((a + n) - a) (drop a s)))

@@ -1,12 +1,14 @@
 -- Laws of the steps: counter blocks as words, one after the other, and the panel added to what they are encrypted to.
-use Rattle.std.proofs.Common.{◌≡◌, ℕ, ◌+◌, ◌-◌, ◌*◌, ◌/◌, ◌%◌, ◌^◌, ◌<◌, ◌≤◌, List, [], ◌∷◌, ◌++◌, map, length, get_or, take, drop, set, sym, refl, ap, ◌∙◌, ap₂, append_assoc, append-nil, add-one, arith, length-drop, drop_of_length-le, length-take-le, take_all, get_or-set_other, get_or-take, get_or-set_same, drop-drop, take-suc-set}
+use Rattle.std.proofs.Common.{◌≡◌, ℕ, ◌+◌, ◌-◌, ◌*◌, ◌/◌, ◌%◌, ◌^◌, ◌<◌, ◌≤◌, List, [], ◌++◌, map, length, get_or, take, drop, set, sym, refl, ap, ◌∙◌, ap₂, append_assoc, append-nil, add-one, arith, length-drop, drop_of_length-le, length-take-le, take_all, get_or-set_other, get_or-take, get_or-set_same, drop-drop, take-suc-set}
 use native.Mathlib.Decide.{dec_lt}
 use lib.Bits.{bit_xor}
 use lib.ListN.{length-map, get_or-append}
+use Rattle.std.specs.Int.{w64, to_be_bytes}
 use Rattle.octets.specs.Bytes.{be, put}
 use Rattle.octets.proofs.Parts.{drop_next, take_put, part_span, length_part}
 use Rattle.rounds.proofs.Blocks.{block_φ}
 use Rattle.schedule.specs.declared.Register.{Register}
+use Rattle.present.proofs.EightBytes.{eight_bytes}
 use Rattle.mcrypton.specs.Cipher.{steps}
 use Rattle.mcrypton.specs.Bytes.{words_of, bytes_of}
 use Rattle.mcrypton.specs.Registers.{encrypt_from}
@@ -18,11 +20,9 @@ use Rattle.panels.specs.Ctr.{T, O, joined, ctr}
 use Rattle.panels.specs.Steps.{Counters, encrypted_from, block_of}
 use Rattle.panels.proofs.Stream.{T_same, xor_take, joined_same, ctr_wraps, ctr_stream, ctr_block, size, split}
 
-pub counter_words : (x : ℕ)
-    → x / 0x1000000000000 % 65536 ∷ x / 0x100000000 % 65536 ∷ x / 0x10000 % 65536 ∷ x % 65536 ∷ [] ≡ words_of (T x)
-unfolding T be words_of
-counter_words x =
-    ap₂ ◌∷◌ (omega arith) (ap₂ ◌∷◌ (omega arith) (ap₂ ◌∷◌ (omega arith) (ap₂ ◌∷◌ (omega arith) refl)))
+pub counter_bytes : (x : ℕ) → x < 2 ^ 64 → to_be_bytes w64 x ≡ T x
+unfolding T
+counter_bytes x h = eight_bytes x ∙ ap (be 8) (omega (arith, h))
 
 -- the loop of `counter_blocks`
 pub counters_none : (c : ℕ) (a : List (List ℕ)) → Counters c 0 a
@@ -35,8 +35,8 @@ counters_more c i t a y h l e f = record { at = λ j g. go j g (dec_lt j i) }
     go j g (yes q) = get_or-set_other a i j y [] (λ z. omega (arith, z, q)) ∙ h.at j q
     go j g (no q) = let z : j ≡ i = omega arith in rw z (get_or-set_same a i y [] l ∙ f ∙ ap words_of (T_same t (c + i) (omega (arith, e))))
 
-pub counters_all : (c n i : ℕ) (a : List (List ℕ)) → Counters c i a → n ≤ i → Counters c n a
-counters_all c n i a h l = record { at = λ j g. h.at j (omega arith) }
+pub counters_front : (c n i : ℕ) (a rest : List (List ℕ)) → Counters c i a → n ≤ i → n ≤ length a → Counters c n (a ++ rest)
+counters_front c n i a rest h l m = record { at = λ j g. get_or-append a rest [] j (omega arith) ∙ h.at j (omega arith) }
 
 -- the loop of `joined_blocks`: y is the bytes of array i
 pub joined_none : (a : List (List ℕ)) (s : List ℕ) → take (8 * 0) s ≡ joined (block_of a) 0

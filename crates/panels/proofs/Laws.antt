@@ -1,4 +1,5 @@
 -- What is said of a panel holds.
+use Rattle.std.specs.Prelude.{Ok}
 use Rattle.std.proofs.Common.{◌≡◌, ℕ, zero, suc, ◌+◌, ◌-◌, ◌*◌, ◌/◌, ◌%◌, ◌^◌, ◌<◌, ◌≤◌, true, ◌≢◌, List, [], ◌∷◌, length, get_or, replicate, sym, refl, ap, ◌∙◌, mul-zero, mul-suc, div-one, arith}
 use lib.Bits.{bit_xor}
 use lib.ListN.{length-replicate}
@@ -16,7 +17,6 @@ use Rattle.mcrypton.specs.Cipher.{by_words, after_by, steps, encrypt_block}
 use Rattle.mcrypton.specs.Bytes.{key_length, words_of, bytes_of, encrypt_bytes, decrypt_bytes}
 use Rattle.octets.specs.BlockCalls.{Leaves}
 use Rattle.mcrypton.specs.Vectors.{key4}
-use Rattle.std.proofs.num.wrapping_add_u64.Reads as wrapping_add
 use Rattle.mcrypton.proofs.Paths.{same_steps}
 use Rattle.mcrypton.proofs.ByteBlocks.{length_bytes, bytes_bytes, block_encrypted}
 use Rattle.mcrypton.proofs.KeyLengths.{reflects_length}
@@ -24,9 +24,8 @@ use Rattle.octets.specs.Block.{ByteBlock}
 use Rattle.cipher.proofs.Promise.{mcrypton_invertible}
 use Rattle.modes.specs.Xor.{xor_bytes}
 use Rattle.panels.specs.Ctr.{T, O, C, joined, ctr}
-use Rattle.panels.specs.Calls.{panel_number, panel_outcome, panel_tests, panelling}
+use Rattle.panels.specs.Calls.{error_number, panel_outcome, panel_tests, panelling}
 use Rattle.panels.specs.Laws.{counter_block, key_block, Sealed, panel_clauses, PanelCalls, PanelAnswers, Panels}
-use Rattle.panels.specs.declared.PanelAnswer.TheVariants.{Accepted}
 use Rattle.panels.proofs.Stream.{ctr_bytes, size, byte, twice}
 use Rattle.panels.proofs.Calls.{wrong_span, overlong, accepts}
 
@@ -45,10 +44,10 @@ unfolding times
 advances d first zero h = omega (arith, mul-zero d)
 advances d first (suc n) h = omega (arith, advances d first n h, mul-suc d n)
 
--- the same of the add that the code calls, as a caller learns its contract: c is first after i adds of 1
+-- the same of the adds in the code, each of which is this equation to its caller: c is first after i adds of 1
 pub data Advanced (first : ℕ) : ℕ → ℕ → Type 0 where
   none : Advanced first 0 first
-  one_more : {i c r : ℕ} → Advanced first i c → wrapping_add.Learnt tt (c, (1, tt)) r (c, (1, tt)) → Advanced first (i + 1) r
+  one_more : {i c r : ℕ} → Advanced first i c → r ≡ (c + 1) % 2 ^ 64 → Advanced first (i + 1) r
 
 pub advanced : (first i c : ℕ) → first < 2 ^ 64 → Advanced first i c → c ≡ (first + i) % 2 ^ 64
 advanced first i c h none = omega arith
@@ -95,7 +94,7 @@ sooner p k first x h =
 -- ---- the sealed panel
 
 module _ (k : List ℕ) (first : ℕ) (hk : OneOf (8 ∷ 12 ∷ 16 ∷ []) (length k)) where
-  answer : (x out : List ℕ) → length out ≡ length x → length x ≤ 65536 → panelling k first x out ≡ panel_outcome Accepted (ctr (encrypt_bytes 0 k) first x)
+  answer : (x out : List ℕ) → length out ≡ length x → length x ≤ 65536 → panelling k first x out ≡ panel_outcome (Ok tt) (ctr (encrypt_bytes 0 k) first x)
   answer x out n l = sym (accepts k first x out true (sym (reflects_yes (reflects_length (length k)) hk)) refl n (omega (arith, l)))
 
   sealed : (p : ℕ) (x out : List ℕ) → length out ≡ length x → length x ≤ 65536 → Sealed p k first x out
@@ -110,7 +109,7 @@ module _ (k : List ℕ) (first : ℕ) (hk : OneOf (8 ∷ 12 ∷ 16 ∷ []) (leng
         size = rw (answer x out n l) s;
         bytes = λ b. rw (answer x out n l) (ctr_bytes E e first x (λ y. key_bytes_lem k (T y)) b);
         byte = λ i h. rw (answer x out n l) (byte E e first x i h ∙ ap (λ (b : List ℕ). bit_xor (get_or x i 0) (get_or b (i % 8) 0)) (key_block_lem p k first (i / 8)));
-        twice = λ out' n'. rw (answer x out n l) (answer (ctr E first x) out' (n' ∙ sym s) (omega (arith, s)) ∙ ap (panel_outcome Accepted) (twice E e first x));
+        twice = λ out' n'. rw (answer x out n l) (answer (ctr E first x) out' (n' ∙ sym s) (omega (arith, s)) ∙ ap (panel_outcome (Ok tt)) (twice E e first x));
       }
 
 -- ---- which calls are refused
@@ -119,7 +118,7 @@ module _ (k : List ℕ) (first : ℕ) (x out : List ℕ) where
   call_exactly : Exactly (panelling k first x out).number (panel_clauses k x out)
   unfolding panelling panel_outcome panel_tests panel_clauses Means
   call_exactly =
-      decided_exactly panel_number (λ (o : Outcome). o.number) _ _ refl (λ a. refl) _ _ (
+      decided_exactly error_number (λ (o : Outcome). o.number) _ _ refl (λ a. refl) _ _ (
         reflects_not (reflects_length (length k)),
         refl,
         λ t₁. (reflects_not (reflects_eqb (length out) (length x)), refl, λ t₃. (reflects_ltb 65536 (length x), refl, λ t₇. tt)),
@@ -127,7 +126,7 @@ module _ (k : List ℕ) (first : ℕ) (x out : List ℕ) where
 
   call_refused : ((panelling k first x out).number ≡ 0 → ⊥) → Leaves (panelling k first x out) out
   unfolding panelling panel_outcome
-  call_refused = decided_refused panel_number (λ (o : Outcome). o.number) _ _ refl (λ a. refl) (λ o. Leaves o out) (λ a h. record { len = refl; bytes_are = refl }) _
+  call_refused = decided_refused error_number (λ (o : Outcome). o.number) _ _ refl (λ a. refl) (λ o. Leaves o out) (λ a h. record { len = refl; bytes_are = refl }) _
 
 -- by computing, and where a panel is long by its length alone
 panel_calls : PanelCalls

@@ -1,6 +1,6 @@
 -- What is proved of a wall panel (document 02, request 8), with mCrypton as the cipher, by any path number: which bytes it is sealed to, that the same call opens it,
 -- exactly which calls are refused, and that no key block comes twice where no number does. x is the panel, and p the path number.
-use Rattle.std.specs.Prelude.{◌≡◌, ℕ, ◌+◌, ◌-◌, ◌*◌, ◌/◌, ◌%◌, ◌^◌, ◌<◌, ◌≤◌, ◌≢◌, List, [], ◌∷◌, length, replicate, bit_xor, slice_index}
+use Rattle.std.specs.Prelude.{◌≡◌, ℕ, ◌+◌, ◌-◌, ◌*◌, ◌/◌, ◌%◌, ◌^◌, ◌<◌, ◌≤◌, ◌≢◌, List, [], ◌∷◌, length, replicate, bit_xor, slice_index, Ok, Err}
 use Rattle.octets.specs.Bytes.{Bytes, zeros}
 use Rattle.octets.specs.Clauses.{Clause, ◌when◌, Exactly, OneOf}
 use Rattle.schedule.specs.Schedule.{times}
@@ -8,7 +8,7 @@ use Rattle.mcrypton.specs.Bytes.{encrypt_bytes}
 use Rattle.octets.specs.BlockCalls.{Leaves}
 use Rattle.mcrypton.specs.Vectors.{key4, key6, key8}
 use Rattle.panels.specs.Calls.{panel_outcome, panelling}
-use Rattle.panels.specs.declared.PanelAnswer.TheVariants.{Accepted, WrongKey, WrongSpan, Overlong}
+use Rattle.panels.specs.declared.PanelError.TheVariants.{WrongKey, WrongSpan, Overlong}
 
 -- ---- the sealed panel
 
@@ -70,10 +70,10 @@ pub record PanelCalls : Type 0 where
 
 -- the left side of the contract: what each answer of the code means, whatever the output holds
 pub record PanelAnswers : Type 0 where
-  pub accepted : (bytes : List ℕ) → panel_outcome Accepted bytes ≡ record { number = 0; len = 0; bytes = bytes }
-  pub wrong_key_lem : (bytes : List ℕ) → panel_outcome WrongKey bytes ≡ record { number = 1; len = 0; bytes = bytes }
-  pub wrong_span : (bytes : List ℕ) → panel_outcome WrongSpan bytes ≡ record { number = 3; len = 0; bytes = bytes }
-  pub overlong : (bytes : List ℕ) → panel_outcome Overlong bytes ≡ record { number = 7; len = 0; bytes = bytes }
+  pub accepted : (bytes : List ℕ) → panel_outcome (Ok tt) bytes ≡ record { number = 0; len = 0; bytes = bytes }
+  pub wrong_key_lem : (bytes : List ℕ) → panel_outcome (Err WrongKey) bytes ≡ record { number = 1; len = 0; bytes = bytes }
+  pub wrong_span : (bytes : List ℕ) → panel_outcome (Err WrongSpan) bytes ≡ record { number = 3; len = 0; bytes = bytes }
+  pub overlong : (bytes : List ℕ) → panel_outcome (Err Overlong) bytes ≡ record { number = 7; len = 0; bytes = bytes }
 
 -- ---- the statement
 

@@ -8,6 +8,7 @@ use lib.Dec.{eqb, leb}
 use lib.ListN.{length, drop, length-drop}
 use lib.Seq.{take_all}
 use borrow.Author.Tests.{eqb-false, leb-false, not-true, not-false}
+use Rattle.std.specs.Prelude.{Ok, Err, Some}
 use Rattle.octets.specs.Bytes.{if◌then◌otherwise◌, Bytes, zeros, part, all_zero, same}
 use Rattle.octets.specs.Outcome.{Row, ◌gives◌, decided}
 use Rattle.octets.proofs.Clauses.{reflects_same}
@@ -16,21 +17,21 @@ use Rattle.modes.specs.Laws.{ByteBlocks}
 use Rattle.layout.specs.Layout.{edition_of, slots, key_class, last_write, mark_number, mark_length, mark_check, field_at, mark, field, blank_slot, fit_in, fit}
 use Rattle.layout.proofs.Fits.{Rules, fit_rules, fits_class, not_blank_written, written_length, length_field}
 use Rattle.layout.proofs.Meaning.{reflects_fit}
-use Rattle.faults.specs.Faults.{Point, point, first_fault, first_set}
+use Rattle.faults.specs.Faults.{Point, point, first_fault, fault_of, first_set}
 use Rattle.faults.proofs.Laws.{first_fault_law}
 use Rattle.faults.proofs.Places.{set_low, set_below, set_there, set_before}
-use Rattle.captions.specs.Answers.{Outcome, outcome, answer_number, answer_point, change_point}
+use Rattle.captions.specs.Answers.{Outcome, outcome, refusal_number, answer_number, answer_length, refusal_point, answer_point, change_point}
 use Rattle.captions.specs.Captions.{Keys, Ciphers, loaded_for, start_block, check_of, opened_field, opened, altered, change}
 use Rattle.captions.specs.Calls.{key_tests, other_class, caption_tests, class_tests, sheet_tests, window_tests, open_tests, write_tests, clear_tests, read_tests, blank_tests, writing_with, clearing_with, reading_with, blanking_with, writing, clearing, reading, blanking}
 use Rattle.captions.specs.Claim.{Sound}
-use Rattle.captions.specs.declared.Answer.{Answer}
-use Rattle.captions.specs.declared.Answer.TheVariants.{Accepted, WrongKey, TwinKeys, WrongSpan, UnfitSheet, OtherKeyClass, NoSuchSlot, Overlong, Worn, Blank, Altered, OtherKeys, BrokenText}
+use Rattle.captions.specs.declared.Refusal.{Refusal}
+use Rattle.captions.specs.declared.Refusal.TheVariants.{WrongKey, TwinKeys, WrongSpan, UnfitSheet, OtherKeyClass, NoSuchSlot, Overlong, Worn, Blank, Altered, OtherKeys, BrokenText}
 use Rattle.captions.specs.declared.Change.{Change}
 use Rattle.captions.specs.declared.Change.TheVariants.{Check, Byte}
 use Rattle.captions.proofs.Slot.{chaining, start_block_lem}
 use Rattle.captions.proofs.Tables.{Unmet, end, next}
-use Rattle.dated.specs.declared.DatedAnswer.{DatedAnswer}
-use Rattle.dated.specs.declared.DatedAnswer.TheVariants.{Read, UnfitTerms, NoSuchDate, NotOnShow}
+use Rattle.dated.specs.declared.DatedRefusal.{DatedRefusal}
+use Rattle.dated.specs.declared.DatedRefusal.TheVariants.{Read, UnfitTerms, NoSuchDate, NotOnShow}
 use Rattle.dated.specs.Calls.{DatedOutcome, dated_number, dated_length, dated_point, of_terms, dated_outcome, undated, dated_tests, dating_with, dating}
 use Rattle.exhibits.proofs.Exhibits.{exhibits}
 use Rattle.octets.proofs.Plain.{plain as plain_bytes}
@@ -52,19 +53,24 @@ ended Q x f q = q
 -- ---- single answers
 
 module _ (s : List ℕ) (A : Point → Type 0) where
-  -- an answer that carries nothing
-  plain : (a : Answer) (bytes : List ℕ) → eqb (answer_number a) 4 ≡ false → eqb (answer_number a) 10 ≡ false → answer_point a ≡ point 0 0 0 → Points s A (outcome a bytes)
-  unfolding outcome
-  plain a bytes n m e = record { unfit = λ q. absurd (eqb-false _ 4 n q); altered = λ q. absurd (eqb-false _ 10 m q); nothing = λ p q. e }
+  accepted : (n : ℕ) (bytes : List ℕ) → Points s A (outcome (Ok n) bytes)
+  unfolding outcome answer_number answer_point
+  accepted n bytes = record { unfit = λ q. absurd (omega (arith, q)); altered = λ q. absurd (omega (arith, q)); nothing = λ p q. refl }
 
-  at_fault : (bytes : List ℕ) → not (fit_in (edition_of s) s) ≡ true → Points s A (outcome (UnfitSheet (first_fault s)) bytes)
+  -- a refusal that carries nothing
+  plain : (r : Refusal) (bytes : List ℕ) → eqb (refusal_number r) 4 ≡ false → eqb (refusal_number r) 10 ≡ false → refusal_point r ≡ point 0 0 0 → Points s A (outcome (Err r) bytes)
+  unfolding outcome answer_number answer_point
+  plain r bytes n m e = record { unfit = λ q. absurd (eqb-false _ 4 n q); altered = λ q. absurd (eqb-false _ 10 m q); nothing = λ p q. e }
+
+  at_fault : (bytes : List ℕ) → not (fit_in (edition_of s) s) ≡ true → Points s A (outcome (Err (UnfitSheet (fault_of s))) bytes)
   unfolding outcome answer_number answer_point fit
   at_fault bytes t =
+      let is : first_fault s ≡ Some (fault_of s) = first_fault_law.fault_is s ((reflects_fit s).fails (not-true _ t)) in
       record {
         unfit = λ q. record {
-          fault = first_fault s;
-          broken = first_fault_law.broken s (λ e. (reflects_fit s).fails (not-true _ t) ((first_fault_law.fits s).1 e));
-          first = first_fault_law.first s;
+          fault = fault_of s;
+          broken = first_fault_law.broken s (fault_of s) is;
+          first = λ f p b. first_fault_law.first s f p b (fault_of s) is;
         };
         altered = λ q. absurd (omega (arith, q));
         nothing = λ n m. absurd (n refl);
@@ -123,14 +129,14 @@ write_points k s i c =
     walk (Points s Never) _ _ _ _ _ (λ t. plain s Never Overlong s refl refl refl) λ t₇.
     walk (Points s Never) _ _ _ _ _ (λ t. plain s Never BrokenText s refl refl refl) λ t₁₅.
     walk (Points s Never) _ _ _ _ _ (λ t. plain s Never Worn s refl refl refl) λ t₈.
-    ended (Points s Never) _ _ (plain s Never (Accepted 0) _ refl refl refl)
+    ended (Points s Never) _ _ (accepted s Never 0 _)
 
 clear_points : (s : List ℕ) (i : ℕ) → Points s Never (clearing s i)
 unfolding clearing clearing_with clear_tests answer_number answer_point
 clear_points s i =
     walk (Points s Never) _ _ _ _ _ (at_fault s Never s) λ t₄.
     walk (Points s Never) _ _ _ _ _ (λ t. plain s Never NoSuchSlot s refl refl refl) λ t₆.
-    ended (Points s Never) _ _ (plain s Never (Accepted 0) _ refl refl refl)
+    ended (Points s Never) _ _ (accepted s Never 0 _)
 
 blank_points : (k : Keys) (s : List ℕ) (n t v : ℕ) → (blanking k s n t v).points ≡ point 0 0 0
 unfolding blanking blanking_with blank_tests outcome answer_point
@@ -167,7 +173,7 @@ module _ (p q : ℕ) (k : Keys) (s : List ℕ) (i : ℕ) (a : Bytes k.sealing) (
     short : mark_length (mark (edition_of s) s i) ≤ 192
     short = written_length (last_write s) (mark (edition_of s) s i) (not_blank_written (edition_of s) s rules i (leb-false (slots s) i t₆) t₉)
 
-    at_altered : (bytes : List ℕ) → altered (loaded_for (key_class s) k) (edition_of s) s i ≡ true → Points s A (outcome (Altered i (change (loaded_for (key_class s) k) (edition_of s) s i)) bytes)
+    at_altered : (bytes : List ℕ) → altered (loaded_for (key_class s) k) (edition_of s) s i ≡ true → Points s A (outcome (Err (Altered i (change (loaded_for (key_class s) k) (edition_of s) s i))) bytes)
     unfolding outcome answer_number answer_point
     at_altered bytes t =
         record {
@@ -191,23 +197,27 @@ module _ (p q : ℕ) (k : Keys) (s : List ℕ) (i : ℕ) (a : Bytes k.sealing) (
       walk (Points s A) _ _ _ _ _ (λ t. plain s A NoSuchSlot z refl refl refl) λ t₆.
       walk (Points s A) _ _ _ _ _ (λ t. plain s A Blank z refl refl refl) λ t₉.
       walk (Points s A) _ _ _ _ _ (at_altered (next t₁ (next t₂ end)) t₄ t₅ t₆ t₉ z) λ t₁₀.
-      ended (Points s A) _ _ (plain s A (Accepted _) _ refl refl refl)
+      ended (Points s A) _ _ (accepted s A _ _)
 
 -- ---- the dated read, with what is known of an altered slot
 
 module _ (k : Keys) (s : List ℕ) (i : ℕ) (A : Point → Type 0)
     (at : Unmet (key_tests k) → not (fit_in (edition_of s) s) ≡ false → other_class k s ≡ false → leb (slots s) i ≡ false → blank_slot (edition_of s) s i ≡ false
-    → (bytes : List ℕ) → altered (loaded_for (key_class s) k) (edition_of s) s i ≡ true → Points s A (outcome (Altered i (change (loaded_for (key_class s) k) (edition_of s) s i)) bytes)) where
+    → (bytes : List ℕ) → altered (loaded_for (key_class s) k) (edition_of s) s i ≡ true → Points s A (outcome (Err (Altered i (change (loaded_for (key_class s) k) (edition_of s) s i))) bytes)) where
   -- refused for its terms, and not
   record Says (d : DatedOutcome) : Type 0 where
     terms : d.unfit_terms ≡ true → PointsAtTerms s d.outcome.points
     caption : d.unfit_terms ≡ false → Points s A d.outcome
 
-  says_read : (r : Answer) (bytes : List ℕ) → Points s A (outcome r bytes) → Says (dated_outcome (Read r) bytes)
-  unfolding dated_outcome dated_number dated_length dated_point of_terms outcome
+  says_accepted : (n : ℕ) (bytes : List ℕ) → Says (dated_outcome (Ok n) bytes)
+  unfolding dated_outcome dated_number dated_length dated_point of_terms outcome answer_number answer_length answer_point
+  says_accepted n bytes = record { terms = λ e. absurd (false≢true e); caption = λ e. accepted s A n bytes }
+
+  says_read : (r : Refusal) (bytes : List ℕ) → Points s A (outcome (Err r) bytes) → Says (dated_outcome (Err (Read r)) bytes)
+  unfolding dated_outcome dated_number dated_length dated_point of_terms outcome answer_number answer_length answer_point
   says_read r bytes h = record { terms = λ e. absurd (false≢true e); caption = λ e. h }
 
-  says_terms : (bytes : List ℕ) → not (fit_in (edition_of s) s) ≡ false → Says (dated_outcome UnfitTerms bytes)
+  says_terms : (bytes : List ℕ) → not (fit_in (edition_of s) s) ≡ false → Says (dated_outcome (Err UnfitTerms) bytes)
   unfolding dated_outcome dated_point of_terms fit
   says_terms bytes t₄ =
       record {
@@ -216,9 +226,10 @@ module _ (k : Keys) (s : List ℕ) (i : ℕ) (A : Point → Type 0)
       }
 
   -- one of the other refusals that a date brings
-  says_plain : (a : DatedAnswer) (bytes : List ℕ) → of_terms a ≡ false → eqb (dated_number a) 4 ≡ false → eqb (dated_number a) 10 ≡ false → dated_point a ≡ point 0 0 0 → Says (dated_outcome a bytes)
+  says_plain : (r : DatedRefusal) (bytes : List ℕ) → of_terms (Err r) ≡ false → eqb (dated_number (Err r)) 4 ≡ false → eqb (dated_number (Err r)) 10 ≡ false → dated_point (Err r) ≡ point 0 0 0
+      → Says (dated_outcome (Err r) bytes)
   unfolding dated_outcome
-  says_plain a bytes f n m e =
+  says_plain r bytes f n m e =
       record {
         terms = λ q. absurd (false≢true (sym f ∙ q));
         caption = λ q. record { unfit = λ q. absurd (eqb-false _ 4 n q); altered = λ q. absurd (eqb-false _ 10 m q); nothing = λ p q. e };
@@ -231,7 +242,7 @@ module _ (k : Keys) (s : List ℕ) (i : ℕ) (A : Point → Type 0)
       walk Says _ _ _ _ _ (λ t. says_read WrongKey z (plain s A WrongKey z refl refl refl)) λ t₁.
       walk Says _ _ _ _ _ (λ t. says_read TwinKeys z (plain s A TwinKeys z refl refl refl)) λ t₂.
       walk Says _ _ _ _ _ (λ t. says_read WrongSpan z (plain s A WrongSpan z refl refl refl)) λ t₃.
-      walk Says _ _ _ _ _ (λ t. says_read (UnfitSheet (first_fault s)) z (at_fault s A z t)) λ t₄.
+      walk Says _ _ _ _ _ (λ t. says_read (UnfitSheet (fault_of s)) z (at_fault s A z t)) λ t₄.
       walk Says _ _ _ _ _ (λ t. says_terms z t₄) λ tₜ.
       walk Says _ _ _ _ _ (λ t. says_read OtherKeyClass z (plain s A OtherKeyClass z refl refl refl)) λ t₅.
       walk Says _ _ _ _ _ (λ t. says_plain NoSuchDate z refl refl refl refl) λ t₁₁.
@@ -240,7 +251,7 @@ module _ (k : Keys) (s : List ℕ) (i : ℕ) (A : Point → Type 0)
       walk Says _ _ _ _ _ (λ t. says_read Blank z (plain s A Blank z refl refl refl)) λ t₉.
       walk Says _ _ _ _ _ (λ t. says_plain NotOnShow z refl refl refl refl) λ t₁₂.
       walk Says _ _ _ _ _ (λ t. says_read (Altered i (change (loaded_for (key_class s) k) (edition_of s) s i)) z (at (next t₁ (next t₂ end)) t₄ t₅ t₆ t₉ z t)) λ t₁₀.
-      ended Says _ _ (says_read (Accepted _) _ (plain s A (Accepted _) _ refl refl refl))
+      ended Says _ _ (says_accepted _ _)
 
 dated_points : (p q : ℕ) (k : Keys) (s t : List ℕ) (i day : ℕ) (window : List ℕ) → Bytes k.sealing → Bytes k.checking → Bytes s
     → (dating k s t i day window).unfit_terms ≡ false → Points s (AtChange (by_paths (key_class s) p q k) s i) (dating k s t i day window).outcome
@@ -248,7 +259,7 @@ dated_points p q k s t i day window a b y =
     (dated_says k s i (AtChange (by_paths (key_class s) p q k) s i) (at_altered p q k s i a b y) t day window).caption
 
 -- whatever an altered slot points at
-any : (s : List ℕ) (i : ℕ) (c : Change) (bytes : List ℕ) → Points s (λ p. Unit {0}) (outcome (Altered i c) bytes)
+any : (s : List ℕ) (i : ℕ) (c : Change) (bytes : List ℕ) → Points s (λ p. Unit {0}) (outcome (Err (Altered i c)) bytes)
 unfolding outcome answer_number
 any s i c bytes = record { unfit = λ e. absurd (omega (arith, e)); altered = λ e. tt; nothing = λ n m. absurd (m refl) }
 

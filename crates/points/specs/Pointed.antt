@@ -1,10 +1,8 @@
 -- The answers of read, write and dated read as the numbers that cross to C.
 use Rattle.std.specs.Prelude.{ℕ, ◌≡◌, List}
 use Rattle.faults.specs.Faults.{Point, point}
-use Rattle.captions.specs.Answers.{Outcome, answer_number, answer_length, answer_point}
-use Rattle.captions.specs.declared.Answer.{Answer}
-use Rattle.dated.specs.Calls.{dated_number, dated_length, dated_point}
-use Rattle.dated.specs.declared.DatedAnswer.{DatedAnswer}
+use Rattle.captions.specs.Answers.{Answer, Outcome, answer_number, answer_length, answer_point}
+use Rattle.dated.specs.Calls.{DatedAnswer, dated_number, dated_length, dated_point}
 use Rattle.points.specs.declared.Pointed.{Pointed}
 
 -- a number, a length and a point

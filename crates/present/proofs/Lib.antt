@@ -4,3 +4,4 @@ pub mod Held
 pub mod ByteBlocks
 pub mod Vectors
 pub mod Refusals
+pub mod EightBytes

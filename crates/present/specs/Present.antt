@@ -3,7 +3,7 @@
 use Rattle.std.specs.Prelude.{ℕ, zero, suc, ◌-◌}
 use Rattle.present_rounds.specs.Layers.{add_round_key, s_box_layer, p_layer, inverse_sBox_layer, inverse_pLayer}
 
--- ---- encryption: for i = 1 to 31 add_round_key(STATE, K_i), s_box_layer, p_layer; then add_round_key(STATE, K_32)
+-- ---- encryption: for i = 1 to 31 addRoundKey(STATE, K_i), sBoxLayer, pLayer; then addRoundKey(STATE, K_32)
 
 -- round i
 unfoldable pub round : (ℕ → ℕ) → ℕ → ℕ → ℕ

@@ -1,8 +1,7 @@
 -- Keys that are given as words: the register of one, a block under one, and what it is that words spell a key.
 use Rattle.std.specs.Prelude.{ℕ, ◌+◌, ◌*◌, ◌<◌, ◌≡◌, Bool, List, get_or, length}
 use Rattle.octets.specs.Bytes.{if◌then◌otherwise◌, be, number}
-use Rattle.present_schedule.specs.Registers.{keys_from}
-use Rattle.present_schedule.specs.declared.Register.{Register}
+use Rattle.present_schedule.specs.Registers.{KeyRegister, keys_from}
 use Rattle.present.specs.Present.{encrypt, decrypt}
 
 -- the number that the four words of w from place a spell
@@ -10,7 +9,7 @@ abbrev pub four_words : List ℕ → ℕ → ℕ
 four_words w a = ((get_or w a 0 * 65536 + get_or w (a + 1) 0) * 65536 + get_or w (a + 2) 0) * 65536 + get_or w (a + 3) 0
 
 -- the register of a key given as words: eight of them, or five and zeros
-unfoldable pub register_of : Bool → List ℕ → Register
+unfoldable pub register_of : Bool → List ℕ → KeyRegister
 register_of wide w = record { high = four_words w 0; low = if wide then four_words w 4 otherwise get_or w 4 0; wide = wide }
 
 -- the block b, as bytes, encrypted and decrypted under the key given as words

@@ -1,5 +1,5 @@
--- The tables' rule: the sum of the entries for the eight bytes is the box layer and then p_layer, or its inverse.
-use mathlib.Core.Path.{◌≡◌, refl, sym, ap, ap₂, ◌∙◌, subst}
+-- The tables' rule: the sum of the entries for the eight bytes is the box layer and then pLayer, or its inverse.
+use mathlib.Core.Path.{◌≡◌, refl, sym, ap, ap₂, ◌∙◌}
 use mathlib.Core.List.{List, [], ◌∷◌}
 use Prim.Native.Nat.{ℕ, zero, suc, ◌+◌, ◌*◌, ◌/◌, ◌%◌, ◌^◌, ◌<◌}
 use native.Mathlib.Nat.{mul_assoc, mul_comm, add-mul, pow-succ', div-div-eq-div-mul, not-suc-le-zero}
@@ -13,6 +13,7 @@ use Rattle.octets.proofs.Bool.{and_left, and_right}
 use Rattle.present_rounds.specs.Digits.{sum, bit, nibble}
 use Rattle.present_rounds.specs.Layers.{boxes, sbox, s_box_layer, place, p_layer, inverse_boxes, inverse_box, inverse_sBox_layer, inverse_pLayer}
 use Rattle.present_rounds.specs.Tables.{listed, strewn, entry, spreads, gathers, byte, spread, gather, Below}
+use Rattle.present_rounds.specs.declared.tables.TheConstants.{SPREAD_BOX, GATHER_BOX, GATHER}
 use Rattle.present_rounds.proofs.Digits.{sum_ext, sum_parts, sum_scale, bit_nibble}
 use Rattle.present_rounds.proofs.Layers.{box_layer, Box, sbox_box, inverse_box_lem, same_box, nibble_layer, source, place_nibble, place_lt, by_places}
 
@@ -33,9 +34,11 @@ byte_shift (suc i) =
     let q : 8 * suc i ≡ 8 + 8 * i = omega arith in
     ap (λ (m : ℕ). 2 ^ m) q ∙ pow-add 2 8 (8 * i) ∙ ap (λ (x : ℕ). 256 * x) (byte_shift i) ∙ sym (pow-succ' 256 i)
 
-pub entry_is : {m : ℕ} {t : List ℕ} {r : ℕ} (s i : ℕ) → Below m t → r ≡ get_or t (s / 2 ^ (8 * i) % 256) 0 → (r ≡ get_or t (byte s i) 0) × (r < m)
-entry_is {m} {t} s i h e =
-    (e ∙ ap (λ (x : ℕ). get_or t (s / x % 256) 0) (byte_shift i), subst (λ (x : ℕ). x < m) (sym e) (h.at (s / 2 ^ (8 * i) % 256)))
+pub byte_is : (s i : ℕ) → s / 2 ^ (8 * i) % 256 ≡ byte s i
+byte_is s i = ap (λ (x : ℕ). s / x % 256) (byte_shift i)
+
+pub entry_is : {m x : ℕ} {t : List ℕ} (s i : ℕ) → Below m t → x ≡ byte s i → (get_or t x 0 ≡ get_or t (byte s i) 0) × (get_or t x 0 < m)
+entry_is {m} {x} {t} s i h e = (ap (λ (x : ℕ). get_or t x 0) e, h.at x)
 
 pub spread_is : (t : List ℕ) (s : ℕ) {e0 e1 e2 e3 e4 e5 e6 e7 : ℕ}
     → e0 ≡ get_or t (byte s 0) 0 → e1 ≡ get_or t (byte s 1) 0 → e2 ≡ get_or t (byte s 2) 0 → e3 ≡ get_or t (byte s 3) 0
@@ -164,14 +167,25 @@ below_all m t h = record { at = go t h }
     go (x ∷ t) h zero = ltb-true x m (and_left (ltb x m) (less_than m t) h)
     go (x ∷ t) h (suc i) = go t (and_right (ltb x m) (less_than m t) h) i
 
-pub spread_box_below : {t : List ℕ} → t ≡ spreads sbox → Below 0x0003000300030004 t
+-- ---- the tables in the code
+
+pub spread_box_table : SPREAD_BOX ≡ spreads sbox
 unfolding spreads listed entry strewn sum sbox boxes
-spread_box_below e = rw e (below_all 0x0003000300030004 (spreads sbox) refl)
+spread_box_table = refl
 
-pub gather_box_below : {t : List ℕ} → t ≡ gathers inverse_box → Below 0x11111112 t
+pub gather_box_table : GATHER_BOX ≡ gathers inverse_box
 unfolding gathers listed entry strewn sum inverse_box inverse_boxes
-gather_box_below e = rw e (below_all 0x11111112 (gathers inverse_box) refl)
+gather_box_table = refl
 
-pub gather_alone_below : {t : List ℕ} → t ≡ gathers (λ x. x) → Below 0x11111112 t
+pub gather_table : GATHER ≡ gathers (λ x. x)
 unfolding gathers listed entry strewn sum
-gather_alone_below e = rw e (below_all 0x11111112 (gathers (λ x. x)) refl)
+gather_table = refl
+
+pub spread_box_below : Below 0x0003000300030004 SPREAD_BOX
+spread_box_below = below_all 0x0003000300030004 SPREAD_BOX refl
+
+pub gather_box_below : Below 0x11111112 GATHER_BOX
+gather_box_below = below_all 0x11111112 GATHER_BOX refl
+
+pub gather_below : Below 0x11111112 GATHER
+gather_below = below_all 0x11111112 GATHER refl

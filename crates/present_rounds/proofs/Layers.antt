@@ -125,7 +125,7 @@ p_layer_inverse s h =
     ∙ by_places (λ i m. bit s m * 2 ^ m)
     ∙ bits_sum 64 s h
 
--- the inverse of p_layer goes bit by bit
+-- the inverse of pLayer goes bit by bit
 pub inverse_pLayer_xor : (x y : ℕ) → inverse_pLayer (bit_xor x y) ≡ bit_xor (inverse_pLayer x) (inverse_pLayer y)
 inverse_pLayer_xor x y =
     bits_ext 64 (inverse_pLayer (bit_xor x y)) (bit_xor (inverse_pLayer x) (inverse_pLayer y)) (inverse_pLayer_lt (bit_xor x y))
@@ -135,7 +135,7 @@ inverse_pLayer_xor x y =
     ∙ bit_xor_lem x y (place i)
     ∙ sym (bit_xor_lem (inverse_pLayer x) (inverse_pLayer y) i ∙ ap₂ bit_xor (bit_inverse_pLayer x i l) (bit_inverse_pLayer y i l)))
 
--- done twice it is p_layer
+-- done twice it is pLayer
 source_twice : (i : ℕ) → i < 64 → place (place i) ≡ source i
 unfolding place
 source_twice i h = eqb→eq (place (place i)) (source i) (below 64 (λ i. eqb (place (place i)) (source i)) tt i h)

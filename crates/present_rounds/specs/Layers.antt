@@ -7,7 +7,7 @@ use Rattle.present_rounds.specs.Digits.{sum, bit, nibble}
 
 -- ---- section 3: the three steps of a round
 
--- add_round_key: b_j becomes b_j ⊕ κ_j
+-- addRoundKey: b_j becomes b_j ⊕ κ_j
 abbrev pub add_round_key : ℕ → ℕ → ℕ
 add_round_key s k = bit_xor s k
 
@@ -18,7 +18,7 @@ boxes = 0xC ∷ 0x5 ∷ 0x6 ∷ 0xB ∷ 0x9 ∷ 0x0 ∷ 0xA ∷ 0xD ∷ 0x3 ∷ 
 unfoldable pub sbox : ℕ → ℕ
 sbox x = get_or boxes x 0
 
--- s_box_layer: the words w_15 .. w_0 of four bits become S[w_15] .. S[w_0]
+-- sBoxLayer: the words w_15 .. w_0 of four bits become S[w_15] .. S[w_0]
 unfoldable pub s_box_layer : ℕ → ℕ
 s_box_layer s = sum 16 (λ i. sbox (nibble s i) * 16 ^ i)
 
@@ -26,7 +26,7 @@ s_box_layer s = sum 16 (λ i. sbox (nibble s i) * 16 ^ i)
 unfoldable pub place : ℕ → ℕ
 place i = if eqb i 63 then 63 otherwise 16 * i % 63
 
--- p_layer: bit i of the state moves to place P(i)
+-- pLayer: bit i of the state moves to place P(i)
 unfoldable pub p_layer : ℕ → ℕ
 p_layer s = sum 64 (λ i. bit s i * 2 ^ place i)
 

@@ -15,7 +15,7 @@ strewn u x = sum 4 (λ b. bit x b * 2 ^ (u * b))
 unfoldable pub entry : ℕ → ℕ → (ℕ → ℕ) → ℕ → ℕ
 entry u d f x = strewn u (f (x % 16)) + strewn u (f (x / 16)) * 2 ^ d
 
--- the table for p_layer after the box f, and for its inverse after f
+-- the table for pLayer after the box f, and for its inverse after f
 unfoldable pub spreads : (ℕ → ℕ) → List ℕ
 spreads f = listed 256 0 (entry 16 1 f)
 

@@ -1,20 +1,31 @@
 // The key schedules of PRESENT, for 80 and for 128 bits.
 #![tactic(auto)]
 
-ghost use Rattle.std.specs.Prelude.{◌≡◌, ◌<◌};
+ghost use Rattle.std.specs.Prelude.{◌≡◌, ◌<◌, ◌≤◌, ◌^◌, ℕ, true, false};
 ghost use Rattle.present_rounds.specs.Layers.{sbox};
-ghost use Rattle.present_rounds.specs.Tables.{gathers};
-ghost use Rattle.present_schedule.specs.Registers.{Fits, Updated, MovedKeys};
+ghost use Rattle.present_schedule.specs.Registers.{KeyRegister, rest, round_key, keys_from, Updated, MovedKeys};
+
+use std::marker::Model;
 
 // A key register of 128 bits, or of 80: the round key, and to its right the other 64 or 16 bits.
 #[derive(Clone, Copy)]
 pub struct Register {
-    pub high: u64,
-    pub low: u64,
-    pub wide: bool,
+    high: u64,
+    low: u64,
+    wide: bool,
 }
 
-// The S-box in one number: its nibble x is S[x]. A table would be copied at each use.
+impl Model for Register {
+    ghost Value = { KeyRegister };
+
+    ghost view = { λ r. record { high = r.high; low = r.low; wide = r.wide } };
+
+    ghost invariant = { λ r. r.low < 2 ^ rest r.wide };
+
+    ghost inverse = { λ r. record { high = r.high; low = r.low; wide = r.wide } };
+}
+
+// The S-box in one number: its nibble x is S[x].
 const BOX: u64 = 0x21748fe3da09b65c;
 
 fn box_at(x: u64) -> u64
@@ -25,9 +36,34 @@ fn box_at(x: u64) -> u64
 }
 
 impl Register {
+    pub fn of_128(high: u64, low: u64) -> Register
+        ensures { result ≡ record { high = high; low = low; wide = true } }
+    {
+        Register {
+            high,
+            low,
+            wide: true,
+        }
+    }
+
+    pub fn of_80(high: u64, low: u16) -> Register
+        ensures { result ≡ record { high = high; low = low; wide = false } }
+    {
+        Register {
+            high,
+            low: u64::from(low),
+            wide: false,
+        }
+    }
+
+    pub fn round_key(self) -> u64
+        ensures { result ≡ round_key self }
+    {
+        self.high
+    }
+
     // The update with the round counter i. What the rotation brings to the left goes through the S-box before it is put there.
     pub fn update(self, i: u64) -> Register
-        requires { Fits self }
         ensures { Updated i self result }
     {
         let h = self.high;
@@ -53,21 +89,20 @@ impl Register {
             wide,
         }
     }
-}
 
-// The round keys as decryption takes them: the inverse of p_layer on K_1 to K_32. The table of that layer is lent.
-pub fn moved_keys(p: &[u32; 256], u: Register) -> [u64; 32]
-    requires { (p.now ≡ gathers (λ x. x)) × Fits u }
-    ensures { MovedKeys u result }
-{
-    let mut k = [0u64; 32];
-    let mut v = u;
-    let mut i: usize = 0;
-    while i < 32 {
-        k[i] = present_rounds::inverse_p_layer(p, v.high);
-        let next = v.update((i + 1) as u64);
-        v = next;
-        i += 1;
+    // The round keys as decryption takes them: the inverse of pLayer on K_1 to K_32.
+    pub fn moved_keys(self) -> [u64; 32]
+        ensures keys { MovedKeys self result }
+        ensures below { (i : ℕ) → i ≤ 32 → keys_from self i < 2 ^ 64 }
+    {
+        // The proof knows the invariant of self once the body has read a field.
+        let _ = &self.high;
+        let mut k = [0u64; 32];
+        let mut v = self;
+        for (i, x) in k.iter_mut().enumerate() {
+            *x = present_rounds::inverse_p_layer(v.round_key());
+            v = v.update(i as u64 + 1);
+        }
+        k
     }
-    k
 }

@@ -14,11 +14,9 @@ use Rattle.rounds.proofs.Xor4.{xor4_ext, xor4_cycle}
 use Rattle.rounds.proofs.Rotation.{rotate_lt, rotate_add, shift_four}
 use Rattle.rounds.proofs.Blocks.{nibble_lt, nibble_row, row_ext, row_nibble, sbox_lt, nibble_xor, φ_rows}
 
-pub sub_is : {t : List (List ℕ)} {r : ℕ} (s x : ℕ) → t ≡ sboxes → x < 16 → r ≡ get_or (get_or t (s % 4) []) x 0 → (r ≡ sbox s x) × (r < 16)
+pub sub_is : {r : ℕ} (s x : ℕ) → x < 16 → r ≡ get_or (get_or sboxes (s % 4) []) x 0 → (r ≡ sbox s x) × (r < 16)
 unfolding sbox
-sub_is s x e h g =
-    let f = g ∙ ap (λ (t : List (List ℕ)). get_or (get_or t (s % 4) []) x 0) e in
-    (f, subst (λ (n : ℕ). n < 16) (sym f) (sbox_lt s x h))
+sub_is s x h g = (g, subst (λ (n : ℕ). n < 16) (sym g) (sbox_lt s x h))
 
 pub gamma_is : (d : Direction) (a : List ℕ) (o : ℕ) {p q r s : ℕ} → o ≡ offset d
     → p ≡ row (λ i. sbox (i + 0 + o) (cell a 0 i)) → q ≡ row (λ i. sbox (i + 1 + o) (cell a 1 i))

@@ -4,25 +4,26 @@
 ghost use Rattle.std.specs.Prelude.{◌≡◌, ◌+◌, ◌*◌, ◌<◌};
 ghost use Rattle.std.specs.Int.Bits.{bit_and};
 ghost use Rattle.rounds.specs.Word.{rotate as rotated, row, nibble as nibble_of, xor4};
-ghost use Rattle.rounds.specs.Array.{sboxes, sbox, offset, opposite as opposite_of, mask as mask_of, cell, γ, π, τ, σ, φ, nibble_round, inverse_round, tables, entry, word_row, word_round};
+ghost use Rattle.rounds.specs.Array.{sbox, offset, opposite as opposite_of, mask as mask_of, cell, γ, π, τ, σ, φ, nibble_round, inverse_round, entry, word_row, word_round};
 ghost use Rattle.rounds.specs.declared.Direction.TheVariants.{Encrypt, Decrypt};
 
-#[derive(Clone, Copy)]
+#[derive(Clone, Copy, Debug, PartialEq, Eq)]
 pub enum Direction {
     Encrypt,
     Decrypt,
 }
 
-const SBOXES: [[u16; 16]; 4] = [
+// The tables are statics, since each use of a constant array copies it.
+static SBOXES: [[u16; 16]; 4] = [
     [4, 15, 3, 8, 13, 10, 12, 0, 11, 5, 7, 14, 2, 6, 1, 9],
     [1, 12, 7, 10, 6, 13, 5, 3, 15, 11, 2, 0, 8, 4, 9, 14],
     [7, 14, 12, 2, 0, 9, 13, 10, 3, 15, 5, 8, 6, 4, 11, 1],
     [11, 0, 10, 7, 13, 6, 4, 2, 12, 14, 3, 9, 1, 5, 15, 8],
 ];
 
-const MASKS: [u16; 4] = [14, 13, 11, 7];
+static MASKS: [u16; 4] = [14, 13, 11, 7];
 
-const WORD_TABLES: [[u16; 16]; 4] = [
+static WORD_TABLES: [[u16; 16]; 4] = [
     [
         0x4404, 0xedb7, 0x2133, 0x8880, 0xcd95, 0xa8a2, 0xcc84, 0x0000, 0xa9b3, 0x4515, 0x6537,
         0xeca6, 0x2022, 0x6426, 0x0111, 0x8991,
@@ -66,53 +67,38 @@ pub fn pack(a: u16, b: u16, c: u16, d: u16) -> u16
     ((a * 16 + b) * 16 + c) * 16 + d
 }
 
-// The S-boxes and the word tables. They are taken once for a block and lent on, since each use of a constant array
-// copies it.
-pub fn sbox_tables() -> [[u16; 16]; 4]
-    ensures { result ≡ sboxes }
-{
-    SBOXES
-}
-
-pub fn word_tables() -> [[u16; 16]; 4]
-    ensures { result ≡ tables }
-{
-    WORD_TABLES
-}
-
 // Entry x of S-box s, s taken modulo 4.
-fn sub(t: &[[u16; 16]; 4], s: usize, x: u16) -> u16
-    requires { (t.now ≡ sboxes) × (x < 16) }
+fn sub(s: usize, x: u16) -> u16
+    requires { x < 16 }
     ensures entry { result ≡ sbox s x }
     ensures small { result < 16 }
 {
-    let i = s % 4;
-    let at = x as usize;
-    t[i][at]
+    SBOXES[s % 4][usize::from(x)]
 }
 
 // S0 of nibble i of a word.
-pub fn sub_nibble(t: &[[u16; 16]; 4], w: u16, i: usize) -> u16
-    requires { (t.now ≡ sboxes) × (i < 4) }
+pub fn sub_nibble(w: u16, i: usize) -> u16
+    requires { i < 4 }
     ensures entry { result ≡ sbox 0 (nibble_of w i) }
     ensures small { result < 16 }
 {
-    sub(t, 0, nibble(w, i))
+    sub(0, nibble(w, i))
 }
 
 // Row j of γ: nibble i of the row w goes through the S-box with index i + j + o.
-fn gamma_row(t: &[[u16; 16]; 4], o: usize, j: usize, w: u16) -> u16
-    requires { (t.now ≡ sboxes) × (o < 3) × (j < 4) }
+fn gamma_row(o: usize, j: usize, w: u16) -> u16
+    requires { (o < 3) × (j < 4) }
     ensures { result ≡ row (λ i. sbox (i + j + o) (nibble_of w i)) }
 {
     pack(
-        sub(t, 0 + j + o, nibble(w, 0)),
-        sub(t, 1 + j + o, nibble(w, 1)),
-        sub(t, 2 + j + o, nibble(w, 2)),
-        sub(t, 3 + j + o, nibble(w, 3)),
+        sub(0 + j + o, nibble(w, 0)),
+        sub(1 + j + o, nibble(w, 1)),
+        sub(2 + j + o, nibble(w, 2)),
+        sub(3 + j + o, nibble(w, 3)),
     )
 }
 
+#[inline(always)]
 fn index_offset(d: Direction) -> usize
     ensures { (result ≡ offset d) × (result < 3) }
 {
@@ -126,21 +112,19 @@ fn index_offset(d: Direction) -> usize
 fn gamma(d: Direction, a: [u16; 4]) -> [u16; 4]
     ensures { result ≡ γ d a }
 {
-    let t = SBOXES;
     let o = index_offset(d);
     [
-        gamma_row(&t, o, 0, a[0]),
-        gamma_row(&t, o, 1, a[1]),
-        gamma_row(&t, o, 2, a[2]),
-        gamma_row(&t, o, 3, a[3]),
+        gamma_row(o, 0, a[0]),
+        gamma_row(o, 1, a[1]),
+        gamma_row(o, 2, a[2]),
+        gamma_row(o, 3, a[3]),
     ]
 }
 
 fn mask(s: usize) -> u16
     ensures { result ≡ mask_of s }
 {
-    let i = s % 4;
-    MASKS[i]
+    MASKS[s % 4]
 }
 
 // Nibble j of column i of π.
@@ -221,7 +205,7 @@ pub fn inverse_round(d: Direction, k: [u16; 4], a: [u16; 4]) -> [u16; 4]
 }
 
 // The masks m_i m_(i+2) m_i m_(i+2), as words.
-const ROW_MASKS: [u16; 4] = [0xebeb, 0xd7d7, 0xbebe, 0x7d7d];
+static ROW_MASKS: [u16; 4] = [0xebeb, 0xd7d7, 0xbebe, 0x7d7d];
 
 // Row i of φ: nibble j is the exclusive or over k of nibble k masked by m with index i + j + k.
 // The four nibbles are taken at once, from four rotations of the word: this takes a third off decryption.
@@ -229,11 +213,11 @@ fn phi_row(w: u16, i: usize) -> u16
     requires { i < 4 }
     ensures { result ≡ row (λ j. xor4 (λ k. bit_and (nibble_of w k) (mask_of (i + j + k)))) }
 {
-    let m = ROW_MASKS;
     let p = (i + 1) % 4;
     let q = (i + 2) % 4;
     let r = (i + 3) % 4;
-    ((w & m[i]) ^ (rotate(w, 4) & m[p])) ^ ((rotate(w, 8) & m[q]) ^ (rotate(w, 12) & m[r]))
+    ((w & ROW_MASKS[i]) ^ (rotate(w, 4) & ROW_MASKS[p]))
+        ^ ((rotate(w, 8) & ROW_MASKS[q]) ^ (rotate(w, 12) & ROW_MASKS[r]))
 }
 
 pub fn phi(a: [u16; 4]) -> [u16; 4]
@@ -248,13 +232,13 @@ pub fn phi(a: [u16; 4]) -> [u16; 4]
 }
 
 // The lookup of the word path: entry x of word table s, s taken modulo 4; for decryption the entry turned by 8 bits.
-fn look_up(t: &[[u16; 16]; 4], d: Direction, s: usize, x: u16) -> u16
-    requires { (t.now ≡ tables) × (x < 16) }
+// A round by words is inlined whole, so that where its direction is a literal nothing is left of the choice.
+#[inline(always)]
+fn look_up(d: Direction, s: usize, x: u16) -> u16
+    requires { x < 16 }
     ensures { result ≡ entry d s x }
 {
-    let i = s % 4;
-    let at = x as usize;
-    let e = t[i][at];
+    let e = WORD_TABLES[s % 4][usize::from(x)];
     match d {
         Direction::Encrypt => e,
         Direction::Decrypt => rotate(e, 8),
@@ -262,59 +246,26 @@ fn look_up(t: &[[u16; 16]; 4], d: Direction, s: usize, x: u16) -> u16
 }
 
 // New row i by words: the exclusive or over k of the lookup, in table i + k for encryption and i + k + 2 for decryption,
-// of the nibble in row k, column i. The direction is a literal in rows and rounds: handed down as a value it keeps the
-// compiler from inlining them.
-fn encrypt_row(t: &[[u16; 16]; 4], a: [u16; 4], i: usize) -> u16
-    requires { (t.now ≡ tables) × (i < 4) }
-    ensures { result ≡ word_row Encrypt a i }
+// of the nibble in row k, column i.
+#[inline(always)]
+fn word_row(d: Direction, a: [u16; 4], i: usize) -> u16
+    requires { i < 4 }
+    ensures { result ≡ word_row d a i }
 {
-    (look_up(t, Direction::Encrypt, i + 0 + 0, nibble(a[0], i))
-        ^ look_up(t, Direction::Encrypt, i + 1 + 0, nibble(a[1], i)))
-        ^ (look_up(t, Direction::Encrypt, i + 2 + 0, nibble(a[2], i))
-            ^ look_up(t, Direction::Encrypt, i + 3 + 0, nibble(a[3], i)))
+    let o = index_offset(d);
+    (look_up(d, i + 0 + o, nibble(a[0], i)) ^ look_up(d, i + 1 + o, nibble(a[1], i)))
+        ^ (look_up(d, i + 2 + o, nibble(a[2], i)) ^ look_up(d, i + 3 + o, nibble(a[3], i)))
 }
 
-fn decrypt_row(t: &[[u16; 16]; 4], a: [u16; 4], i: usize) -> u16
-    requires { (t.now ≡ tables) × (i < 4) }
-    ensures { result ≡ word_row Decrypt a i }
-{
-    (look_up(t, Direction::Decrypt, i + 0 + 2, nibble(a[0], i))
-        ^ look_up(t, Direction::Decrypt, i + 1 + 2, nibble(a[1], i)))
-        ^ (look_up(t, Direction::Decrypt, i + 2 + 2, nibble(a[2], i))
-            ^ look_up(t, Direction::Decrypt, i + 3 + 2, nibble(a[3], i)))
-}
-
-// One round by words of a direction, and of either, with the word tables lent.
-pub fn encrypt_round(t: &[[u16; 16]; 4], k: [u16; 4], a: [u16; 4]) -> [u16; 4]
-    requires { t.now ≡ tables }
-    ensures { result ≡ word_round Encrypt k a }
-{
-    [
-        encrypt_row(t, a, 0) ^ k[0],
-        encrypt_row(t, a, 1) ^ k[1],
-        encrypt_row(t, a, 2) ^ k[2],
-        encrypt_row(t, a, 3) ^ k[3],
-    ]
-}
-
-pub fn decrypt_round(t: &[[u16; 16]; 4], k: [u16; 4], a: [u16; 4]) -> [u16; 4]
-    requires { t.now ≡ tables }
-    ensures { result ≡ word_round Decrypt k a }
-{
-    [
-        decrypt_row(t, a, 0) ^ k[0],
-        decrypt_row(t, a, 1) ^ k[1],
-        decrypt_row(t, a, 2) ^ k[2],
-        decrypt_row(t, a, 3) ^ k[3],
-    ]
-}
-
-pub fn word_round(t: &[[u16; 16]; 4], d: Direction, k: [u16; 4], a: [u16; 4]) -> [u16; 4]
-    requires { t.now ≡ tables }
+// One round by words.
+#[inline(always)]
+pub fn word_round(d: Direction, k: [u16; 4], a: [u16; 4]) -> [u16; 4]
     ensures { result ≡ word_round d k a }
 {
-    match d {
-        Direction::Encrypt => encrypt_round(t, k, a),
-        Direction::Decrypt => decrypt_round(t, k, a),
-    }
+    [
+        word_row(d, a, 0) ^ k[0],
+        word_row(d, a, 1) ^ k[1],
+        word_row(d, a, 2) ^ k[2],
+        word_row(d, a, 3) ^ k[3],
+    ]
 }

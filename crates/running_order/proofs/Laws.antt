@@ -1,4 +1,5 @@
 -- The statement on the running order.
+use Rattle.std.specs.Prelude.{Option, Some, None}
 use Prim.Native.Nat.{ℕ, ◌+◌, ◌≤◌, ◌<◌}
 use mathlib.Core.Path.{◌≡◌, refl, ap, ◌∙◌}
 use mathlib.Core.Bool.{true, false}
@@ -27,7 +28,6 @@ use Rattle.sorting.proofs.Laws.{sorting}
 use Rattle.running_order.specs.Order.{in_order, show_lines, running_order}
 use Rattle.running_order.specs.Calls.{order_outcome, order_tests, ordering}
 use Rattle.running_order.specs.Laws.{BothFit, IsShown, Before, by_opening, by_slot, Listed, OrderCalls, RunningOrder}
-use Rattle.running_order.specs.declared.OrderAnswer.{OrderAnswer}
 use Rattle.running_order.proofs.Turns.{times_above, times_upto, in_turn}
 use Rattle.running_order.proofs.Apart.{a_line, lines_apart, words_apart}
 use Rattle.running_order.proofs.Exactly.{reflects_shown, order_lines, unfit_exactly, no_date_exactly}
@@ -110,18 +110,18 @@ module _ (s t x out : List ℕ) where
   call_exactly : Exactly (ordering s t x out).number ((3 when (length out < length (running_order s t x))) ∷ [])
   unfolding ordering order_tests order_outcome Means
   call_exactly =
-      decided_exactly (λ (a : OrderAnswer). (order_outcome a out).number) (λ (o : Outcome). o.number) _ _ refl (λ a. refl) _ _
+      decided_exactly (λ (a : Option ℕ). (order_outcome a out).number) (λ (o : Outcome). o.number) _ _ refl (λ a. refl) _ _
       (reflects_ltb (length out) (length (running_order s t x)), refl, λ t₃. tt)
 
-  leaves : (a : OrderAnswer) → ((order_outcome a out).number ≡ 0 → ⊥) → Leaves (order_outcome a out) out
+  leaves : (a : Option ℕ) → ((order_outcome a out).number ≡ 0 → ⊥) → Leaves (order_outcome a out) out
   unfolding order_outcome
-  leaves (OrderAnswer.Put n) h = absurd (h refl)
-  leaves OrderAnswer.WrongSpan h = record { len = refl; bytes_are = refl }
+  leaves (Some n) h = absurd (h refl)
+  leaves None h = record { len = refl; bytes_are = refl }
 
   call_refused : ((ordering s t x out).number ≡ 0 → ⊥) → Leaves (ordering s t x out) out
   unfolding ordering order_outcome
   call_refused =
-      decided_refused (λ (a : OrderAnswer). (order_outcome a out).number) (λ (o : Outcome). o.number) _ _ refl (λ a. refl) (λ o. Leaves o out) leaves _
+      decided_refused (λ (a : Option ℕ). (order_outcome a out).number) (λ (o : Outcome). o.number) _ _ refl (λ a. refl) (λ o. Leaves o out) leaves _
 
 pub order_calls : OrderCalls
 unfolding order_outcome

@@ -1,7 +1,7 @@
 -- Laws of the order numbers that are gathered, one for each way out of a function that gathers them.
 use Prim.Native.Nat.{ℕ, zero, suc, ◌+◌, ◌*◌, ◌≤◌, ◌<◌}
 use mathlib.Core.Path.{◌≡◌, refl, sym, ap, ap₂, ◌∙◌}
-use mathlib.Core.Bool.{Bool, true, false}
+use mathlib.Core.Bool.{Bool, true, false, not}
 use mathlib.Core.List.{List, [], ◌∷◌, ◌++◌, append-nil}
 use native.Mathlib.Numerals.{add-one}
 use native.Mathlib.Omega.{arith}
@@ -17,7 +17,7 @@ use Rattle.running_order.specs.Inner.{Holds, with_slot, OpenDays}
 
 -- ---- slot i of the sheets s and t
 
-pub shown_blank : (s t : List ℕ) (day i : ℕ) (r : Bool) → r ≡ blank_slot (edition_of s) s i → r ≡ true → false ≡ shown s t day i
+pub shown_blank : (s t : List ℕ) (day i : ℕ) (r : Bool) → r ≡ blank_slot (edition_of s) s i → r ≡ true → not r ≡ shown s t day i
 unfolding shown
 shown_blank s t day i r e f = rw (← e, f)
 

@@ -11,7 +11,6 @@ use Rattle.layout.specs.declared.Shape.{Shape}
 use Rattle.layout.specs.Layout.{slots}
 use Rattle.layout.specs.Shape.{SheetOf}
 use Rattle.layout.proofs.Slots.{sheet_slots}
-use Rattle.listing.specs.Appended.{Appended}
 use Rattle.sorting.specs.Sorting.{sorted}
 use Rattle.sorting.proofs.Laws.{each_as, each_append, each_sorted, length_sorted}
 use Rattle.running_order.specs.Order.{order_number, shown_numbers, in_order, show_lines}
@@ -56,16 +55,19 @@ module _ (s t : List ℕ) where
       size : length y ≡ n
       size = ap length e ∙ length_sorted (take n l) ∙ length-take-le n l (omega (arith, p.size, shown_few))
 
-      pub sorted_size : length (y ++ drop n l) ≡ 256
+      sorted_size : length (y ++ drop n l) ≡ 256
       sorted_size = omega (arith, length-append y (drop n l), size, length-drop n l, p.size, shown_few)
 
-      pub sorted_count : 256 ≡ length (y ++ drop n l)
-      sorted_count = sym sorted_size
+      pub sorted_count : n ≡ length (take n (y ++ drop n l))
+      sorted_count = sym (length-take-le n (y ++ drop n l) (omega (arith, sorted_size, shown_few)))
 
       sorted_are : take n (y ++ drop n l) ≡ sorted (shown_numbers s t day h.slots)
       sorted_are = part_append_head y (drop n l) n size ∙ e ∙ ap sorted p.first
 
-      pub shown_carry : Carry (y ++ drop n l) n h.slots
+      pub lines_few : length (take n (y ++ drop n l)) ≤ 256
+      lines_few = omega (arith, sorted_count, shown_few)
+
+      pub shown_carry : Carry (take n (y ++ drop n l)) h.slots
       shown_carry =
           record {
             slots =
@@ -74,9 +76,8 @@ module _ (s t : List ℕ) where
                 (each_sorted (Carries h.slots) (shown_numbers s t day h.slots) (numbers_carry day h.slots f.small.1)));
           }
 
-      pub append_shown : (o x : List ℕ) (r : ℕ) → Appended 8704 o 0 (show_lines s t (map (λ k. k % 256) (take n (y ++ drop n l)))) r x
-          → Appended 8704 o 0 (show_lines s t (in_order s t day)) r x
+      pub shown_put : (x : List ℕ) → x ≡ show_lines s t (map (λ k. k % 256) (take n (y ++ drop n l))) → x ≡ show_lines s t (in_order s t day)
       unfolding in_order
-      append_shown o x r q =
+      shown_put x q =
           let all : sorted (shown_numbers s t day h.slots) ≡ sorted (shown_numbers s t day (slots s)) = ap (λ (k : ℕ). sorted (shown_numbers s t day k)) (sheet_slots s h f) in
-          rw (← all, ← sorted_are) q
+          q ∙ rw (sorted_are, all)

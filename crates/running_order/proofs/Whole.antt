@@ -1,5 +1,6 @@
 -- Laws of the whole running order, one for each way out of a function that makes it.
-use Prim.Native.Nat.{ℕ, ◌+◌, ◌≤◌, ◌<◌}
+use Rattle.std.specs.Prelude.{Option, Some, None}
+use Prim.Native.Nat.{ℕ, ◌≤◌, ◌<◌}
 use mathlib.Core.Path.{◌≡◌, sym, ap, ◌∙◌, subst}
 use mathlib.Core.Bool.{Bool, true, false}
 use mathlib.Core.List.{List}
@@ -10,9 +11,8 @@ use lib.ListN.{length, take}
 use lib.Seq.{length-take-le}
 use Rattle.octets.specs.Bytes.{put}
 use Rattle.octets.specs.Outcome.{Outcome, decided}
-use Rattle.octets.proofs.Parts.{length_put, part_put}
+use Rattle.octets.proofs.Parts.{length_put}
 use Rattle.calendar.specs.Answers.{day_outcome}
-use Rattle.calendar.specs.declared.DayAnswer.{DayAnswer}
 use Rattle.layout.specs.declared.Shape.{Shape}
 use Rattle.layout.specs.Layout.{slots, fit, edition_of}
 use Rattle.layout.specs.Shape.{shape_of, SheetOf}
@@ -21,18 +21,16 @@ use Rattle.terms.specs.Terms.{fit_terms}
 use Rattle.terms.specs.Inner.{TermsOf}
 use Rattle.terms.proofs.Meaning.{reflects_terms}
 use Rattle.listing.specs.Ascii.{ascii}
-use Rattle.listing.specs.Appended.{Appended}
 use Rattle.dates.specs.DateText.{day_of_text}
 use Rattle.running_order.specs.Order.{in_order, show_lines, running_order}
 use Rattle.running_order.specs.Calls.{order_outcome, order_tests, ordering}
 use Rattle.running_order.specs.Inner.{OpenDays}
-use Rattle.running_order.specs.declared.OrderAnswer.{OrderAnswer}
 
 -- r is what was found of the caption sheet
-module _ (s t x l : List ℕ) (r : Bool) (e : r ≡ fit s) where
-  pub append_unfit : r ≡ false → (m : List ℕ) (a : ℕ) → Appended 8704 l 0 (ascii "unfit\n") a m → Appended 8704 l 0 (running_order s t x) a m
+module _ (s t x : List ℕ) (r : Bool) (e : r ≡ fit s) where
+  pub unfit_put : r ≡ false → (m : List ℕ) → m ≡ ascii "unfit\n" → m ≡ running_order s t x
   unfolding running_order
-  append_unfit f m a p = rw (← e, f) p
+  unfit_put f m p = p ∙ rw (← e, f)
 
   module _ (f : r ≡ true) where
     fits : Fits s
@@ -51,9 +49,9 @@ module _ (s t x l : List ℕ) (r : Bool) (e : r ≡ fit s) where
       slots_of = ap (λ (k : Shape). k.slots) g
 
       module _ (q : Bool) (u : q ≡ fit_terms h.slots t) where
-        pub append_unfit_terms : q ≡ false → (m : List ℕ) (a : ℕ) → Appended 8704 l 0 (ascii "unfit\n") a m → Appended 8704 l 0 (running_order s t x) a m
+        pub unfit_terms_put : q ≡ false → (m : List ℕ) → m ≡ ascii "unfit\n" → m ≡ running_order s t x
         unfolding running_order
-        append_unfit_terms v m a p = rw (← e, f, ← slots_of, ← u, v) p
+        unfit_terms_put v m p = p ∙ rw (← e, f, ← slots_of, ← u, v)
 
         module _ (v : q ≡ true) where
           pub terms_of : TermsOf t h.slots
@@ -64,35 +62,25 @@ module _ (s t x l : List ℕ) (r : Bool) (e : r ≡ fit s) where
           open_days = record { opens = ((reflects_terms h.slots t).holds (sym u ∙ v)).openings }
 
           -- d is what was found of the date
-          module _ (d : DayAnswer) (w : day_outcome d ≡ day_of_text x) where
-            pub append_no_date : d ≡ DayAnswer.NoSuchDate → (m : List ℕ) (a : ℕ) → Appended 8704 l 0 (ascii "no such date\n") a m → Appended 8704 l 0 (running_order s t x) a m
+          module _ (d : Option ℕ) (w : day_outcome d ≡ day_of_text x) where
+            pub no_date_put : d ≡ None → (m : List ℕ) → m ≡ ascii "no such date\n" → m ≡ running_order s t x
             unfolding running_order day_outcome
-            append_no_date y m a p = rw (← e, f, ← slots_of, ← u, v, ← w, y) p
+            no_date_put y m p = p ∙ rw (← e, f, ← slots_of, ← u, v, ← w, y)
 
-            pub append_order : (day : ℕ) → d ≡ DayAnswer.Day day → (m : List ℕ) (a : ℕ)
-                → Appended 8704 l 0 (show_lines s t (in_order s t day)) a m → Appended 8704 l 0 (running_order s t x) a m
+            pub order_made : (day k : ℕ) → d ≡ Some day → k ≡ day → (m : List ℕ) → m ≡ show_lines s t (in_order s t k) → m ≡ running_order s t x
             unfolding running_order day_outcome
-            append_order day y m a p = rw (← e, f, ← slots_of, ← u, v, ← w, y) p
+            order_made day k y z m p = p ∙ rw (← e, f, ← slots_of, ← u, v, ← w, y, z)
 
--- ---- the text m of n bytes copied to the output
+-- ---- the text m copied to the output
 
-module _ (s t x out l m : List ℕ) (n : ℕ) (p : Appended 8704 l 0 (running_order s t x) n m) where
-  pub order_count : length m ≡ 8704 → n ≡ length (take n m)
-  order_count h = sym (length-take-le n m (omega (arith, p.within)))
-
-  pub order_room : length m ≡ 8704 → n ≤ length out → 0 + length (take n m) ≤ length out
-  order_room h g = omega (arith, order_count h)
-
-  pub order_span : length out < n → order_outcome OrderAnswer.WrongSpan out ≡ ordering s t x out
+module _ (s t x out m : List ℕ) (p : m ≡ running_order s t x) where
+  pub order_span : length out < length m → order_outcome None out ≡ ordering s t x out
   unfolding ordering order_tests decided
-  order_span h = rw (lt-ltb (length out) (length (running_order s t x)) (omega (arith, p.next)))
+  order_span h = rw (← p, lt-ltb (length out) (length m) h)
 
-  pub order_put : n ≤ length out → length l ≡ 8704 → (y : List ℕ) → y ≡ put out 0 (take n m) → order_outcome (OrderAnswer.Put n) y ≡ ordering s t x out
+  pub order_put : length m ≤ length out → (y : List ℕ) → y ≡ put out 0 m → order_outcome (Some (length m)) y ≡ ordering s t x out
   unfolding ordering order_tests decided
-  order_put h g y e =
-      let c : n ≡ length (running_order s t x) = omega (arith, p.next) in
-      let d : take n m ≡ running_order s t x = rw p.bytes (part_put l (running_order s t x) 0 n (sym c) (omega (arith, p.within))) in
-      rw (le-ltb (length out) (length (running_order s t x)) (omega arith), e, d, c)
+  order_put h y e = rw (← p, le-ltb (length out) (length m) h, e)
 
 -- what is put is within the output
 put_fits : (s t x out : List ℕ) → (ordering s t x out).len ≤ length (ordering s t x out).bytes
@@ -105,11 +93,11 @@ put_fits s t x out =
           rw (le-ltb (length out) (length (running_order s t x)) g, length_put out (running_order s t x) 0 (omega arith)) g
     ]
 
-module _ (s t x out y : List ℕ) (a : OrderAnswer) (e : order_outcome a y ≡ ordering s t x out) (n : ℕ) (f : a ≡ OrderAnswer.Put n) where
+module _ (s t x out y : List ℕ) (a : Option ℕ) (e : order_outcome a y ≡ ordering s t x out) (n : ℕ) (f : a ≡ Some n) where
   pub put_within : n ≤ length y
   unfolding order_outcome
   put_within =
-      subst (λ (o : Outcome). o.len ≤ length o.bytes) (sym (ap (λ (b : OrderAnswer). order_outcome b y) (sym f) ∙ e)) (put_fits s t x out)
+      subst (λ (o : Outcome). o.len ≤ length o.bytes) (sym (ap (λ (b : Option ℕ). order_outcome b y) (sym f) ∙ e)) (put_fits s t x out)
 
   pub put_count : n ≡ length (take n y)
   put_count = sym (length-take-le n y put_within)

@@ -15,9 +15,9 @@ pub record Holds (l : List ℕ) (n : ℕ) (ks : List ℕ) : Type 0 where
 unfoldable pub with_slot : List ℕ → List ℕ → ℕ → ℕ → List ℕ → List ℕ
 with_slot s t day i ks = ks ++ (if shown s t day i then (order_number s t i ∷ []) otherwise [])
 
--- each of the first n numbers of l carries a slot below m
-pub record Carry (l : List ℕ) (n m : ℕ) : Type 0 where
-  pub slots : Each (λ k. k % 256 < m) (take n l)
+-- each of the numbers l carries a slot below m
+pub record Carry (l : List ℕ) (m : ℕ) : Type 0 where
+  pub slots : Each (λ k. k % 256 < m) l
 
 -- no slot of a fit term sheet opens after the last day
 pub record OpenDays (t : List ℕ) (n : ℕ) : Type 0 where

@@ -1,5 +1,5 @@
 -- What is proved of the running order: which text is printed, which slots have a line, what a line says, in what order they stand, how the text is read back, and what a call does.
-use Rattle.std.specs.Prelude.{ℕ, ◌≤◌, ◌<◌, ◌≡◌, List, [], ◌∷◌, ◌++◌, map, ◌↔◌, ◌⊎◌, eqb, length, get_or, take, drop, replicate}
+use Rattle.std.specs.Prelude.{ℕ, ◌≤◌, ◌<◌, ◌≡◌, List, [], ◌∷◌, ◌++◌, map, ◌↔◌, ◌⊎◌, eqb, length, get_or, take, drop, replicate, Some, None}
 use Rattle.octets.specs.Bytes.{if◌then◌otherwise◌, Bytes}
 use Rattle.octets.specs.Clauses.{◌when◌, Exactly}
 use Rattle.octets.specs.BlockCalls.{Leaves}
@@ -18,7 +18,6 @@ use Rattle.sorting.specs.Laws.{Sorting}
 use Rattle.running_order.specs.Order.{show_line, show_lines, running_order}
 use Rattle.running_order.specs.Calls.{order_outcome, ordering}
 use Rattle.running_order.specs.Example.{example_sheet, example_terms}
-use Rattle.running_order.specs.declared.OrderAnswer.TheVariants.{Put, WrongSpan}
 
 -- ---- which slots, and in what order
 
@@ -76,8 +75,8 @@ pub record OrderCalls : Type 0 where
   -- 7570 bytes always suffice
   pub suffices : (s t x out : List ℕ) → 7570 ≤ length out → (ordering s t x out).number ≡ 0
   -- what each answer of the code means, whatever the output holds
-  pub put : (n : ℕ) (bytes : List ℕ) → order_outcome (Put n) bytes ≡ record { number = 0; len = n; bytes = bytes }
-  pub wrong_span : (bytes : List ℕ) → order_outcome WrongSpan bytes ≡ record { number = 3; len = 0; bytes = bytes }
+  pub put : (n : ℕ) (bytes : List ℕ) → order_outcome (Some n) bytes ≡ record { number = 0; len = n; bytes = bytes }
+  pub wrong_span : (bytes : List ℕ) → order_outcome None bytes ≡ record { number = 3; len = 0; bytes = bytes }
 
 -- ---- in plain values
 

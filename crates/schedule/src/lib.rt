@@ -3,12 +3,11 @@
 
 ghost use Rattle.std.specs.Prelude.{◌≡◌, ◌*◌, ◌<◌};
 ghost use Rattle.std.specs.Int.Bits.{bit_xor};
-ghost use Rattle.rounds.specs.Array.{sboxes};
 ghost use Rattle.rounds.specs.Word.{nibble};
 ghost use Rattle.schedule.specs.Schedule.{forward as forward_of, backward as backward_of, sub_word, last_word, round_key, back_start};
 
 // A key register: up to eight 16-bit words, the word count and the round.
-#[derive(Clone, Copy)]
+#[derive(Clone, Copy, Debug, PartialEq, Eq)]
 pub struct Register {
     pub words: [u16; 8],
     pub count: usize,
@@ -16,15 +15,15 @@ pub struct Register {
 }
 
 // The constants c_0 to c_12.
-const CONSTANTS: [u16; 13] = [1, 2, 4, 8, 3, 6, 12, 11, 5, 10, 7, 14, 15];
+static CONSTANTS: [u16; 13] = [1, 2, 4, 8, 3, 6, 12, 11, 5, 10, 7, 14, 15];
 
 // Nibble i of T, where w is word 0 of the register and c the constant of its round.
-fn t_nibble(s: &[[u16; 16]; 4], w: u16, c: u16, i: usize) -> u16
-    requires { (s.now ≡ sboxes) × (c < 16) × (i < 4) }
+fn t_nibble(w: u16, c: u16, i: usize) -> u16
+    requires { (c < 16) × (i < 4) }
     ensures value { result ≡ nibble (bit_xor (sub_word w) (c * 0x1111)) i }
     ensures small { result < 16 }
 {
-    rounds::sub_nibble(s, w, i) ^ c
+    rounds::sub_nibble(w, i) ^ c
 }
 
 impl Register {
@@ -34,18 +33,10 @@ impl Register {
         ensures { result ≡ forward_of self }
     {
         let u = self.words;
-        let t = self.count;
         let round = self.round + 1;
-        if t == 4 {
-            let w = [u[1], u[2], u[3], rounds::rotate(u[0], 3), 0, 0, 0, 0];
-            return Register {
-                words: w,
-                count: t,
-                round,
-            };
-        }
-        if t == 6 {
-            let w = [
+        let words = match self.count {
+            4 => [u[1], u[2], u[3], rounds::rotate(u[0], 3), 0, 0, 0, 0],
+            6 => [
                 u[5],
                 rounds::rotate(u[0], 3),
                 u[1],
@@ -54,27 +45,22 @@ impl Register {
                 u[4],
                 0,
                 0,
-            ];
-            return Register {
-                words: w,
-                count: t,
-                round,
-            };
-        }
-        let w = [
-            u[5],
-            u[6],
-            u[7],
-            rounds::rotate(u[0], 3),
-            u[1],
-            u[2],
-            u[3],
-            rounds::rotate(u[4], 8),
-        ];
+            ],
+            _ => [
+                u[5],
+                u[6],
+                u[7],
+                rounds::rotate(u[0], 3),
+                u[1],
+                u[2],
+                u[3],
+                rounds::rotate(u[4], 8),
+            ],
+        };
         Register {
-            words: w,
-            count: t,
+            words,
             round,
+            ..self
         }
     }
 
@@ -84,18 +70,10 @@ impl Register {
         ensures { result ≡ backward_of self }
     {
         let u = self.words;
-        let t = self.count;
         let round = self.round - 1;
-        if t == 4 {
-            let w = [rounds::rotate(u[3], 13), u[0], u[1], u[2], 0, 0, 0, 0];
-            return Register {
-                words: w,
-                count: t,
-                round,
-            };
-        }
-        if t == 6 {
-            let w = [
+        let words = match self.count {
+            4 => [rounds::rotate(u[3], 13), u[0], u[1], u[2], 0, 0, 0, 0],
+            6 => [
                 rounds::rotate(u[1], 13),
                 u[2],
                 u[3],
@@ -104,27 +82,22 @@ impl Register {
                 u[0],
                 0,
                 0,
-            ];
-            return Register {
-                words: w,
-                count: t,
-                round,
-            };
-        }
-        let w = [
-            rounds::rotate(u[3], 13),
-            u[4],
-            u[5],
-            u[6],
-            rounds::rotate(u[7], 8),
-            u[0],
-            u[1],
-            u[2],
-        ];
+            ],
+            _ => [
+                rounds::rotate(u[3], 13),
+                u[4],
+                u[5],
+                u[6],
+                rounds::rotate(u[7], 8),
+                u[0],
+                u[1],
+                u[2],
+            ],
+        };
         Register {
-            words: w,
-            count: t,
+            words,
             round,
+            ..self
         }
     }
 
@@ -133,9 +106,8 @@ impl Register {
         ensures { result ≡ back_start self }
     {
         let k = self.words;
-        let t = self.count;
-        if t == 4 {
-            let w = [
+        let words = match self.count {
+            4 => [
                 rounds::rotate(k[0], 9),
                 rounds::rotate(k[1], 9),
                 rounds::rotate(k[2], 9),
@@ -144,15 +116,8 @@ impl Register {
                 0,
                 0,
                 0,
-            ];
-            return Register {
-                words: w,
-                count: t,
-                round: 12,
-            };
-        }
-        if t == 6 {
-            let w = [
+            ],
+            6 => [
                 rounds::rotate(k[0], 6),
                 rounds::rotate(k[1], 6),
                 rounds::rotate(k[2], 6),
@@ -161,27 +126,22 @@ impl Register {
                 rounds::rotate(k[5], 6),
                 0,
                 0,
-            ];
-            return Register {
-                words: w,
-                count: t,
-                round: 12,
-            };
-        }
-        let w = [
-            rounds::rotate(k[4], 3),
-            rounds::rotate(k[5], 14),
-            rounds::rotate(k[6], 3),
-            rounds::rotate(k[7], 14),
-            rounds::rotate(k[0], 14),
-            rounds::rotate(k[1], 3),
-            rounds::rotate(k[2], 14),
-            rounds::rotate(k[3], 3),
-        ];
+            ],
+            _ => [
+                rounds::rotate(k[4], 3),
+                rounds::rotate(k[5], 14),
+                rounds::rotate(k[6], 3),
+                rounds::rotate(k[7], 14),
+                rounds::rotate(k[0], 14),
+                rounds::rotate(k[1], 3),
+                rounds::rotate(k[2], 14),
+                rounds::rotate(k[3], 3),
+            ],
+        };
         Register {
-            words: w,
-            count: t,
+            words,
             round: 12,
+            ..self
         }
     }
 
@@ -194,21 +154,19 @@ impl Register {
         if count == 4 { u[0] } else { u[4] }
     }
 
-    // The round key, with the S-boxes lent.
-    pub fn round_key(self, s: &[[u16; 16]; 4]) -> [u16; 4]
-        requires { (self.round < 13) × (s.now ≡ sboxes) }
+    // The round key.
+    pub fn round_key(self) -> [u16; 4]
+        requires { self.round < 13 }
         ensures { result ≡ round_key self }
     {
         let u = self.words;
-        let round = self.round;
-        let c = CONSTANTS;
-        let x = c[round];
+        let x = CONSTANTS[self.round];
         let w = u[0];
         [
-            u[1] ^ t_nibble(s, w, x, 0) * 4096,
-            u[2] ^ t_nibble(s, w, x, 1) * 256,
-            u[3] ^ t_nibble(s, w, x, 2) * 16,
-            self.last() ^ t_nibble(s, w, x, 3) * 1,
+            u[1] ^ t_nibble(w, x, 0) * 4096,
+            u[2] ^ t_nibble(w, x, 1) * 256,
+            u[3] ^ t_nibble(w, x, 2) * 16,
+            self.last() ^ t_nibble(w, x, 3) * 1,
         ]
     }
 }

@@ -6,7 +6,7 @@ ghost use Rattle.captions.specs.Answers.{outcome};
 ghost use Rattle.captions.specs.Captions.{pair};
 ghost use Rattle.captions.specs.Calls.{writing, clearing, reading, blanking};
 
-use captions::{Answer, Verdict};
+use captions::{Answer, Keys};
 
 // Stores a blank sheet of n slots for a pair of keys: n, t, the edition, w = 0, the serial, the key mark and zeros.
 pub fn blank(
@@ -19,13 +19,11 @@ pub fn blank(
 ) -> Answer
     ensures { outcome result sheet.new ≡ blanking (pair sealing.now checking.now) sheet.old n t serial }
 {
-    let blanking = verdicts::blank_verdict(sealing, checking, sheet, n, t);
-    if let Verdict::Refuse(a) = blanking {
-        return a;
-    }
-    let mark = key_mark::key_mark(sealing, checking, n, t, serial as usize);
+    let keys = Keys { sealing, checking };
+    verdicts::blank_verdict(keys, sheet, n, t)?;
+    let mark = key_mark::key_mark(keys, n, t, usize::from(serial));
     layout::put_blank(sheet, n, t, serial, mark);
-    Answer::Accepted(0)
+    Ok(0)
 }
 
 // Seals a caption into a slot.
@@ -38,25 +36,20 @@ pub fn write(
 ) -> Answer
     ensures { outcome result sheet.new ≡ writing (pair sealing.now checking.now) sheet.old slot caption.now }
 {
-    let writing = verdicts::write_verdict(sealing, checking, sheet, slot, caption);
-    if let Verdict::Refuse(a) = writing {
-        return a;
-    }
-    slots::seal::put_caption(sealing, checking, sheet, slot, caption);
-    Answer::Accepted(0)
+    let keys = Keys { sealing, checking };
+    verdicts::write_verdict(keys, sheet, slot, caption)?;
+    slots::seal::put_caption(keys, sheet, slot, caption);
+    Ok(0)
 }
 
 // Makes all 208 bytes of a slot zero.
 pub fn clear(sheet: &mut [u8], slot: usize) -> Answer
     ensures { outcome result sheet.new ≡ clearing sheet.old slot }
 {
-    let clearing = verdicts::clear_verdict(sheet, slot);
-    if let Verdict::Refuse(a) = clearing {
-        return a;
-    }
+    verdicts::clear_verdict(sheet, slot)?;
     let h = layout::sheet_shape(sheet);
     layout::zero_slot(sheet, h, slot);
-    Answer::Accepted(0)
+    Ok(0)
 }
 
 // Opens a slot into the window; a refused read makes every byte of the window zero.
@@ -64,9 +57,7 @@ pub fn read(sealing: &[u8], checking: &[u8], sheet: &[u8], slot: usize, window: 
     ensures { outcome result window.new ≡ reading (pair sealing.now checking.now) sheet.now slot window.old }
 {
     octets::fill_zero(window);
-    let reading = verdicts::read_verdict(sealing, checking, sheet, slot, window.len());
-    if let Verdict::Refuse(a) = reading {
-        return a;
-    }
-    slots::unseal::show(sealing, checking, sheet, slot, window)
+    let keys = Keys { sealing, checking };
+    verdicts::read_verdict(keys, sheet, slot, window.len())?;
+    slots::unseal::show(keys, sheet, slot, window)
 }

@@ -12,19 +12,11 @@ use std::io::Read;
 pub fn pattern(out: &mut [u8], step: u8, first: usize)
     ensures { out.new ≡ patterned step (first % 256) (length out.old) }
 {
-    let mut x = first % 256;
-    let mut i = 0;
-    while i < out.len() {
-        out[i] = (x % 256) as u8;
-        x = (x % 256) + wide(step);
-        i += 1;
+    let mut x = (first % 256) as u8;
+    for b in out.iter_mut() {
+        *b = x;
+        x = x.wrapping_add(step);
     }
-}
-
-fn wide(x: u8) -> usize
-    ensures { (result ≡ x) × (result < 256) }
-{
-    x as usize
 }
 
 pub fn hex<R: Print>(rt: &R, s: &[u8]) -> io::Result<()> {

@@ -3,17 +3,14 @@
 #![tactic(auto)]
 
 ghost use Rattle.std.specs.Prelude.{◌≡◌, ◌<◌};
-ghost use Rattle.rounds.specs.Array.{tables};
 
 use rounds::Direction;
 use schedule::Register;
 use std::io;
 
-fn one_round(t: &[[u16; 16]; 4], d: Direction, by_words: bool, k: [u16; 4], a: [u16; 4]) -> [u16; 4]
-    requires { t.now ≡ tables }
-{
+fn one_round(d: Direction, by_words: bool, k: [u16; 4], a: [u16; 4]) -> [u16; 4] {
     if by_words {
-        rounds::word_round(t, d, k, a)
+        rounds::word_round(d, k, a)
     } else {
         rounds::nibble_round(d, k, a)
     }
@@ -23,18 +20,14 @@ fn one_round(t: &[[u16; 16]; 4], d: Direction, by_words: bool, k: [u16; 4], a: [
 fn array_after(p: u16, u: Register, r: usize, b: [u16; 4]) -> [u16; 4]
     requires { (u.round ≡ 0) × (r < 13) }
 {
-    let s = rounds::sbox_tables();
-    let t = rounds::word_tables();
     let mut v = u;
-    let mut a = rounds::sigma(v.round_key(&s), b);
-    let mut i: usize = 0;
-    while i < r {
+    let mut a = rounds::sigma(v.round_key(), b);
+    for i in 0..r {
         let next = v.forward();
         let by_words = (p >> i) % 2 == 1;
-        let array = one_round(&t, Direction::Encrypt, by_words, next.round_key(&s), a);
+        let array = one_round(Direction::Encrypt, by_words, next.round_key(), a);
         v = next;
         a = array;
-        i += 1;
     }
     a
 }
@@ -55,7 +48,7 @@ fn line<R: Print>(rt: &R, key: &[u8], r: usize) -> io::Result<()>
     let mut wanted = [0u8; 8];
     show::pattern(&mut wanted, 53, 31 * r + 7);
     let mut block = [0u8; 8];
-    chip_bench::bench_block(key, r, &wanted, &mut block);
+    let _ = chip_bench::bench_block(key, r, &wanted, &mut block);
     let array = array_of(key, r, block);
     show::number(rt, key.len() / 2)?;
     show::text(rt, b" ")?;

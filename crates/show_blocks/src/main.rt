@@ -13,8 +13,8 @@ fn line<R: Print>(rt: &R, key: &[u8], s: usize) -> io::Result<()>
     show::pattern(&mut block, 53, 31 * s + 7);
     let mut sealed = [0u8; 8];
     let mut opened = [0u8; 8];
-    mcrypton::encrypt_block(key, &block, 0x5a5a, &mut sealed);
-    mcrypton::decrypt_block(key, &block, 0x33cc, &mut opened);
+    let _ = mcrypton::encrypt_block(key, &block, 0x5a5a, &mut sealed);
+    let _ = mcrypton::decrypt_block(key, &block, 0x33cc, &mut opened);
     show::hex(rt, key)?;
     show::text(rt, b" ")?;
     show::hex(rt, &block)?;

@@ -60,11 +60,10 @@ fn line_of<R: Print>(rt: &R, key: &mut [u8], n: usize) -> io::Result<()>
 }
 
 fn lines<R: Print>(rt: &R, key: &mut [u8]) -> io::Result<()> {
-    line_of(rt, key, 0)?;
-    line_of(rt, key, 1)?;
-    line_of(rt, key, 2)?;
-    line_of(rt, key, 3)?;
-    line_of(rt, key, 24)
+    for n in [0, 1, 2, 3, 24] {
+        line_of(rt, key, n)?;
+    }
+    Ok(())
 }
 
 fn main(rt: HostRuntime) -> io::Result<()> {

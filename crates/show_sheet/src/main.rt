@@ -8,10 +8,10 @@ use std::io;
 
 // The number and the length of an answer.
 fn answer<R: Print>(rt: &R, a: Answer) -> io::Result<()> {
-    let p = points::answer_pointed(a);
-    show::number(rt, p.number as usize)?;
+    let p = points::Pointed::from(a);
+    show::number(rt, usize::from(p.number))?;
     show::text(rt, b" ")?;
-    show::number(rt, p.length as usize)?;
+    show::number(rt, usize::from(p.length))?;
     show::text(rt, b" ")
 }
 
@@ -20,16 +20,11 @@ fn mac_bytes(checking: &[u8], sheet: &[u8]) -> usize
     ensures { result ≤ length checking.now }
 {
     let n = checking.len();
-    if sheet.len() < 3 {
-        return n;
+    if sheet.len() >= 3 && sheet[2] >= 9 {
+        n.min(8)
+    } else {
+        n
     }
-    if sheet[2] < 9 {
-        return n;
-    }
-    if n < 8 {
-        return n;
-    }
-    8
 }
 
 // The line of a call: its name, its answer, and the CMAC of the whole sheet under the checking key.
@@ -38,7 +33,7 @@ fn line<R: Print>(rt: &R, name: &[u8], a: Answer, checking: &[u8], sheet: &[u8])
     answer(rt, a)?;
     let mut check = [0u8; 8];
     let n = mac_bytes(checking, sheet);
-    modes::cmac(&checking[..n], sheet, &mut check);
+    let _ = modes::cmac(&checking[..n], sheet, &mut check);
     show::hex(rt, &check)?;
     show::text(rt, b"\n")
 }
@@ -70,11 +65,9 @@ fn write_with<R: Print>(
 // Byte i becomes 32 + (53 * i + first) % 95: of the caption with number s, where first is 31 * s + 7.
 fn spell(caption: &mut [u8], first: usize) {
     let mut x = first % 95;
-    let mut i = 0;
-    while i < caption.len() {
-        caption[i] = (32 + x) as u8;
+    for b in caption.iter_mut() {
+        *b = (32 + x) as u8;
         x = (x + 53) % 95;
-        i += 1;
     }
 }
 
@@ -216,7 +209,7 @@ fn reads<R: Print>(rt: &R, sealing: &[u8], checking: &[u8], sheet: &[u8]) -> io:
 
 fn list<R: Print>(rt: &R, sheet: &[u8]) -> io::Result<()> {
     let mut text = [0u8; 128];
-    let n = listing::list(sheet, &mut text);
+    let n = listing::list(sheet, &mut text).unwrap_or(0);
     show::text(rt, &text[..n])
 }
 
@@ -258,7 +251,7 @@ fn serial_sheet<R: Print>(rt: &R, sealing: &[u8], near: &[u8], checking: &[u8]) 
     sheet[3] = 2;
     sheet[8] = 90;
     sheet[9] = (checking.len() / 2) as u8;
-    line(rt, b"old ", Answer::Accepted(0), checking, &sheet)?;
+    line(rt, b"old ", Ok(0), checking, &sheet)?;
     lines(rt, sealing, near, checking, &mut sheet)
 }
 
@@ -270,7 +263,7 @@ fn old_sheet<R: Print>(rt: &R, sealing: &[u8], near: &[u8], checking: &[u8]) -> 
     sheet[1] = 3;
     sheet[2] = (checking.len() / 2) as u8;
     sheet[3] = 1;
-    line(rt, b"old ", Answer::Accepted(0), checking, &sheet)?;
+    line(rt, b"old ", Ok(0), checking, &sheet)?;
     lines(rt, sealing, near, checking, &mut sheet)
 }
 

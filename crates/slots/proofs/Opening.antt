@@ -7,6 +7,7 @@ use native.Mathlib.Nat.{add-zero}
 use native.Mathlib.Omega.{arith}
 use lib.ListN.{length, take, drop, length-drop}
 use lib.Seq.{take_all}
+use Rattle.std.specs.Prelude.{Ok, Err}
 use Rattle.octets.specs.Bytes.{number, zeros, part, all_zero, same}
 use Rattle.octets.proofs.Outcome.{decided_first, decided_rest, decided_none}
 use Rattle.octets.proofs.Parts.{part_part, part_span, length_span}
@@ -23,7 +24,7 @@ use Rattle.faults.specs.Faults.{first_set}
 use Rattle.faults.proofs.Places.{set_high}
 use Rattle.captions.specs.Answers.{Outcome, outcome}
 use Rattle.captions.specs.Captions.{pair, loaded_for, start_block, check_of, opened_field, opened, altered, change}
-use Rattle.captions.specs.declared.Answer.TheVariants.{Accepted, Altered}
+use Rattle.captions.specs.declared.Refusal.TheVariants.{Altered}
 use Rattle.captions.specs.declared.Change.TheVariants.{Check, Byte}
 use Rattle.slots.specs.Inner.{ciphers, left_in, slot_shown, Written, Placed}
 use Rattle.slots.proofs.Sealing.{field_inside, tail_is, keys_loaded}
@@ -48,7 +49,7 @@ pub left_small : (s : List ℕ) (len p : ℕ) → len ≤ 192 → p ≡ first_se
 left_small s len p h e = omega (arith, e, set_high s len (192 - len))
 
 -- v is what was opened, b the place that was found in it
-pub left_refused : (v w : List ℕ) (i len b : ℕ) → b ≡ first_set v len (192 - len) → w ≡ zeros (length v) → outcome (Altered i (Byte b)) w ≡ left_in v i len
+pub left_refused : (v w : List ℕ) (i len b : ℕ) → b ≡ first_set v len (192 - len) → w ≡ zeros (length v) → outcome (Err (Altered i (Byte b))) w ≡ left_in v i len
 unfolding left_in
 left_refused v w i len b e z = rw (e, z)
 
@@ -88,7 +89,7 @@ module _ (s : List ℕ) (h : Shape) (i : ℕ) (p : SlotIn s h i) (a : ℕ) (q : 
     check_found = e ∙ rw (← q, check_read, field_read, number_read w n, length_read len l)
 
     -- the check differs
-    pub shown_other_check : (window : List ℕ) → window ≡ zeros 192 → r ≡ false → outcome (Altered i Check) window ≡ slot_shown (ciphers k m) s i
+    pub shown_other_check : (window : List ℕ) → window ≡ zeros 192 → r ≡ false → outcome (Err (Altered i Check)) window ≡ slot_shown (ciphers k m) s i
     unfolding slot_shown altered change
     shown_other_check window z t = decided_first _ _ _ _ _ (rw (← check_found, t)) (rw (← check_found, t, z))
 
@@ -106,7 +107,7 @@ module _ (s : List ℕ) (h : Shape) (i : ℕ) (p : SlotIn s h i) (a : ℕ) (q : 
       unfolding change
       change_is = rw (← check_found, t, ← field_is, ← length_read len l)
 
-      pub shown : v ≡ true → outcome (Accepted len) x ≡ slot_shown (ciphers k m) s i
+      pub shown : v ≡ true → outcome (Ok len) x ≡ slot_shown (ciphers k m) s i
       unfolding slot_shown
       shown u = decided_rest _ _ _ _ _ (altered_is ∙ rw u) (rw (← field_is, ← length_read len l) (decided_none _ _))
 

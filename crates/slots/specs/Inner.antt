@@ -1,5 +1,5 @@
 -- For contracts alone: the ciphers of loaded keys, what a read comes to once its slot may be opened, and where parts of a slot lie.
-use Rattle.std.specs.Prelude.{ℕ, ◌-◌, ◌≤◌, ◌<◌, ◌≡◌, false, List, [], ◌∷◌, length}
+use Rattle.std.specs.Prelude.{ℕ, ◌-◌, ◌≤◌, ◌<◌, ◌≡◌, false, List, [], ◌∷◌, length, Ok, Err}
 use Rattle.octets.specs.Bytes.{zeros, put}
 use Rattle.octets.specs.Outcome.{decided}
 use Rattle.cipher.specs.Key.{encrypted, decrypted}
@@ -11,7 +11,7 @@ use Rattle.faults.specs.Faults.{first_set}
 use Rattle.captions.specs.Answers.{Outcome, outcome}
 use Rattle.captions.specs.Captions.{Ciphers, opened}
 use Rattle.captions.specs.Calls.{altered_row}
-use Rattle.captions.specs.declared.Answer.TheVariants.{Accepted, Altered}
+use Rattle.captions.specs.declared.Refusal.TheVariants.{Altered}
 use Rattle.captions.specs.declared.Change.TheVariants.{Byte}
 
 -- k is the loaded sealing key, m the loaded checking key
@@ -20,12 +20,12 @@ ciphers k m = record { E = encrypted k; D = decrypted k; M = encrypted m }
 
 -- a read of slot i that has opened v, and finds a byte at or past len that isn't zero
 unfoldable pub left_in : List ℕ → ℕ → ℕ → Outcome
-left_in v i len = outcome (Altered i (Byte (first_set v len (192 - len)))) (zeros (length v))
+left_in v i len = outcome (Err (Altered i (Byte (first_set v len (192 - len))))) (zeros (length v))
 
 -- what a read comes to once every test before 10 is passed
 unfoldable pub slot_shown : Ciphers → List ℕ → ℕ → Outcome
 slot_shown x s i =
-    decided (altered_row x (edition_of s) s i ∷ []) (outcome (Accepted (mark_length (mark (edition_of s) s i))) (opened x (edition_of s) s i)) (λ a. outcome a (zeros 192))
+    decided (altered_row x (edition_of s) s i ∷ []) (outcome (Ok (mark_length (mark (edition_of s) s i))) (opened x (edition_of s) s i)) (λ r. outcome (Err r) (zeros 192))
 
 -- a slot that isn't blank, of a sheet that meets the layout
 pub record Written (s : List ℕ) (i : ℕ) : Type 0 where

@@ -6,6 +6,7 @@ ghost use Rattle.layout.specs.Shape.{SlotIn, FitSlot};
 ghost use Rattle.captions.specs.Captions.{pair, loaded_for, start_block, sealed_field, check_of, new_mark, stored_as, written};
 ghost use Rattle.slots.specs.Inner.{ciphers, Placed, FieldPut};
 
+use captions::Keys;
 use layout::Shape;
 
 pub fn start_block(k: cipher::Key, tail: usize, w: usize, i: usize) -> [u8; 8]
@@ -30,8 +31,7 @@ fn put_field(k: cipher::Key, sheet: &mut [u8], h: Shape, w: usize, i: usize, cap
     ensures { FieldPut sheet.old (field_at h.header h.slots i) (sealed_field (ciphers k k) h.tail w i caption.now) sheet.new }
 {
     let b = layout::field_at(h, i);
-    let tail = h.tail;
-    seal_caption(k, tail, w, i, caption, &mut sheet[b..b + 192]);
+    seal_caption(k, h.tail, w, i, caption, &mut sheet[b..b + 192]);
 }
 
 // The check of the field of slot i, with the numbers before it, on the sheet's own bytes.
@@ -73,13 +73,13 @@ fn put_slot(
 }
 
 // The next write number, with the keys loaded for the sheet's class.
-pub fn put_caption(sealing: &[u8], checking: &[u8], sheet: &mut [u8], slot: usize, caption: &[u8])
+pub fn put_caption(keys: Keys, sheet: &mut [u8], slot: usize, caption: &[u8])
     requires { (length caption.now ≤ 192) × FitSlot sheet.old slot }
-    ensures { sheet.new ≡ written (loaded_for (key_class sheet.old) (pair sealing.now checking.now)) (edition_of sheet.old) sheet.old slot caption.now }
+    ensures { sheet.new ≡ written (loaded_for (key_class sheet.old) (pair keys.entry.sealing.now keys.entry.checking.now)) (edition_of sheet.old) sheet.old slot caption.now }
 {
     let h = layout::sheet_shape(sheet);
     let w = layout::last_write(sheet) + 1;
-    let k = cipher::load(h.class, sealing);
-    let m = cipher::load(h.class, checking);
+    let k = cipher::load(h.class, keys.sealing);
+    let m = cipher::load(h.class, keys.checking);
     put_slot(k, m, sheet, h, w, slot, caption);
 }

@@ -1,5 +1,5 @@
 // Opening a slot into a window.
-ghost use Rattle.std.specs.Prelude.{◌≡◌, ◌+◌, ◌-◌, ◌≤◌, ◌<◌, length, drop};
+ghost use Rattle.std.specs.Prelude.{◌≡◌, ◌+◌, ◌-◌, ◌≤◌, ◌<◌, length, drop, Err};
 ghost use Rattle.octets.specs.Bytes.{part, zeros, same, all_zero};
 ghost use Rattle.layout.specs.Layout.{edition_of, key_class, mark_at, field_at, mark_length, mark};
 ghost use Rattle.layout.specs.Shape.{SlotIn};
@@ -8,7 +8,8 @@ ghost use Rattle.captions.specs.Answers.{outcome};
 ghost use Rattle.captions.specs.Captions.{pair, loaded_for, check_of, opened_field};
 ghost use Rattle.slots.specs.Inner.{ciphers, left_in, slot_shown, Written, Placed};
 
-use captions::{Answer, Change};
+use crate::seal::{check_at, start_block};
+use captions::{Answer, Change, Keys, Refusal};
 use layout::Shape;
 
 // Whether the stored check is that of the field.
@@ -16,7 +17,7 @@ fn check_same(m: cipher::Key, sheet: &[u8], h: Shape, w: usize, i: usize, len: u
     requires { Placed (length sheet.now) h i }
     ensures { result ≡ same (check_of (ciphers m m) w i len (part sheet.now (field_at h.header h.slots i) 192)) (part sheet.now (mark_at h.header i + 8) 8) }
 {
-    let check = crate::seal::check_at(m, sheet, h, w, i, len);
+    let check = check_at(m, sheet, h, w, i, len);
     let a = layout::mark_at(h, i) + 8;
     octets::same_bytes(&check, &sheet[a..a + 8])
 }
@@ -27,13 +28,8 @@ fn open_field(k: cipher::Key, sheet: &[u8], h: Shape, w: usize, i: usize, window
     ensures { window.new ≡ opened_field (ciphers k k) h.tail w i (part sheet.now (field_at h.header h.slots i) 192) }
 {
     let b = layout::field_at(h, i);
-    let tail = h.tail;
-    modes::cbc_decrypt(
-        k,
-        crate::seal::start_block(k, tail, w, i),
-        &sheet[b..b + 192],
-        window,
-    );
+    let start = start_block(k, h.tail, w, i);
+    modes::cbc_decrypt(k, start, &sheet[b..b + 192], window);
 }
 
 // Whether every byte at or past len is zero.
@@ -53,14 +49,14 @@ fn first_left(s: &[u8], len: usize) -> u8
     place as u8
 }
 
-// Refuses an opened field that isn't zero at or past len, and makes the window zero.
-fn refuse_left(window: &mut [u8], i: usize, len: usize) -> Answer
+// Why an opened field is refused that isn't zero at or past len. The window becomes zero.
+fn refuse_left(window: &mut [u8], i: usize, len: usize) -> Refusal
     requires { (i < 65536) × (len ≤ 192) }
-    ensures { outcome result window.new ≡ left_in window.old i len }
+    ensures { outcome (Err result) window.new ≡ left_in window.old i len }
 {
     let place = first_left(window, len);
     octets::fill_zero(window);
-    Answer::Altered(i as u16, Change::Byte(place))
+    Refusal::Altered(i as u16, Change::Byte(place))
 }
 
 // Test 10 and the read of slot i with loaded keys, for a sheet whose shape is h. The window is all zero.
@@ -76,25 +72,25 @@ fn show_slot(
     ensures { outcome result window.new ≡ slot_shown (ciphers k m) sheet.now i }
 {
     let a = layout::mark_at(h, i);
-    let w = octets::number4(sheet, a);
-    let len = octets::number2(sheet, a + 4);
+    let w = octets::number::<4>(sheet, a);
+    let len = octets::number::<2>(sheet, a + 4);
     if !check_same(m, sheet, h, w, i, len) {
-        return Answer::Altered(i as u16, Change::Check);
+        return Err(Refusal::Altered(i as u16, Change::Check));
     }
     open_field(k, sheet, h, w, i, window);
-    if tail_zero(window, len) {
-        return Answer::Accepted(len as u16);
+    if !tail_zero(window, len) {
+        return Err(refuse_left(window, i, len));
     }
-    refuse_left(window, i, len)
+    Ok(len as u16)
 }
 
 // Test 10 and the read of a slot that isn't blank. The window is all zero.
-pub fn show(sealing: &[u8], checking: &[u8], sheet: &[u8], slot: usize, window: &mut [u8]) -> Answer
+pub fn show(keys: Keys, sheet: &[u8], slot: usize, window: &mut [u8]) -> Answer
     requires { Written sheet.now slot × (window.old ≡ zeros 192) }
-    ensures { outcome result window.new ≡ slot_shown (loaded_for (key_class sheet.now) (pair sealing.now checking.now)) sheet.now slot }
+    ensures { outcome result window.new ≡ slot_shown (loaded_for (key_class sheet.now) (pair keys.entry.sealing.now keys.entry.checking.now)) sheet.now slot }
 {
     let h = layout::sheet_shape(sheet);
-    let k = cipher::load(h.class, sealing);
-    let m = cipher::load(h.class, checking);
+    let k = cipher::load(h.class, keys.sealing);
+    let m = cipher::load(h.class, keys.checking);
     show_slot(k, m, sheet, h, slot, window)
 }

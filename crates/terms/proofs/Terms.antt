@@ -5,13 +5,12 @@ use mathlib.Core.List.{List}
 use Prim.Native.Nat.{ℕ, zero, suc, ◌+◌, ◌*◌, ◌≤◌, ◌<◌}
 use native.Mathlib.Numerals.{unary_clauses}
 use native.Mathlib.Omega.{arith}
-use borrow.Author.Tests.{eq-eqb, ne_eqb, le-leb, lt-leb}
-use lib.Dec.{eqb, leb}
+use borrow.Author.Tests.{le-leb, lt-leb}
+use lib.Dec.{leb}
 use lib.ListN.{length}
 use Rattle.octets.specs.Bytes.{number, part, all_below}
-use Rattle.octets.proofs.Bool.{and_false_left, and_false_right}
 use Rattle.octets.proofs.Compare.{all_below_next, all_below_stop}
-use Rattle.terms.specs.Terms.{count, opening, closing, fit_terms, on_show}
+use Rattle.terms.specs.Terms.{opening, closing, on_show}
 use Rattle.terms.specs.Inner.{day_fits, TermsOf}
 
 -- ---- the scan over all days
@@ -55,38 +54,6 @@ days_all t n =
     ∙ ap (λ b. all_below n (day_fits t) && b)
     (all_below_same (λ i. day_fits t (n + i)) _ n (λ i. ap (λ (a : ℕ). leb (number (part t a 2)) 36524) {x = 2 + 2 * (n + i)} {y = 2 + 2 * n + 2 * i} (omega arith)))
 
--- ---- the test of a whole term sheet
-
-pub terms_short : (t : List ℕ) (n : ℕ) → length t < 2 → false ≡ fit_terms n t
-unfolding fit_terms
-terms_short t n h = sym (and_false_right (eqb (count t) n) _ (and_false_left (eqb (length t) (2 + 4 * n)) _ (ne_eqb (length t) (2 + 4 * n) (λ e. omega (arith, e)))))
-
--- c is the count that was read
-module _ (t : List ℕ) (n c : ℕ) (e : c ≡ number (part t 0 2)) where
-  pub terms_other : (c ≡ n → ⊥) → false ≡ fit_terms n t
-  unfolding fit_terms count
-  terms_other h = sym (and_false_left (eqb (number (part t 0 2)) n) _ (rw (← e) (ne_eqb c n h)))
-
-  module _ (h : c ≡ n) where
-    counted : eqb (count t) n ≡ true
-    unfolding count
-    counted = eq-eqb (number (part t 0 2)) n (sym e ∙ h)
-
-    pub terms_length : (length t ≡ 2 + 4 * c → ⊥) → false ≡ fit_terms n t
-    unfolding fit_terms
-    terms_length l = sym (and_false_right (eqb (count t) n) _ (and_false_left (eqb (length t) (2 + 4 * n)) _ (ne_eqb (length t) (2 + 4 * n) (λ q. l (omega (arith, q, h))))))
-
-    pub terms_of : length t ≡ 2 + 4 * c → c < 65536 → TermsOf t c
-    terms_of l f = record { size = l; few = f }
-
-    pub terms_days : length t ≡ 2 + 4 * c → (r : Bool) → r ≡ all_below (c + c) (day_fits t) → r ≡ fit_terms n t
-    unfolding fit_terms
-    terms_days l r f =
-        f
-        ∙ ap (λ (m : ℕ). all_below (m + m) (day_fits t)) h
-        ∙ days_all t n
-        ∙ sym (rw (counted, eq-eqb (length t) (2 + 4 * n) (omega (arith, l, h))))
-
 -- ---- a slot's days
 
 module _ (t : List ℕ) (n : ℕ) (i : ℕ) (g : TermsOf t n) (l : i < n) where
@@ -106,7 +73,7 @@ closing_read t n i x e = e
 
 -- x and y are the opening and the closing day that were read
 module _ (t : List ℕ) (n i day x : ℕ) (e : x ≡ opening t i) where
-  pub show_early : day < x → false ≡ on_show n t i day
+  pub show_early : day < x → leb x day ≡ on_show n t i day
   unfolding on_show
   show_early h = rw (← e, lt-leb x day h)
 

@@ -13,19 +13,17 @@ fn fit_day(t: &[u8], n: usize, j: usize) -> bool
     requires { TermsOf t.now n × (j < n + n) }
     ensures { result ≡ day_fits t.now j }
 {
-    octets::number2(t, 2 + 2 * j) <= LAST_DAY
+    octets::number::<2>(t, 2 + 2 * j) <= LAST_DAY
 }
 
 fn fit_days(t: &[u8], n: usize) -> bool
     requires { TermsOf t.now n }
     ensures { result ≡ all_below (n + n) (day_fits t.now) }
 {
-    let mut j = 0;
-    while j < n + n {
+    for j in 0..n + n {
         if !fit_day(t, n, j) {
             return false;
         }
-        j += 1;
     }
     true
 }
@@ -34,17 +32,7 @@ fn fit_days(t: &[u8], n: usize) -> bool
 pub fn fit_terms(t: &[u8], n: usize) -> bool
     ensures { result ≡ fit_terms n t.now }
 {
-    if t.len() < 2 {
-        return false;
-    }
-    let count = octets::number2(t, 0);
-    if count != n {
-        return false;
-    }
-    if t.len() != 2 + 4 * count {
-        return false;
-    }
-    fit_days(t, count)
+    2 <= t.len() && octets::number::<2>(t, 0) == n && t.len() == 2 + 4 * n && fit_days(t, n)
 }
 
 // The opening day of slot i.
@@ -52,7 +40,7 @@ pub fn opening_day(t: &[u8], n: usize, i: usize) -> usize
     requires { TermsOf t.now n × (i < n) }
     ensures { result ≡ opening t.now i }
 {
-    octets::number2(t, 2 + 2 * i)
+    octets::number::<2>(t, 2 + 2 * i)
 }
 
 // The closing day of slot i.
@@ -60,7 +48,7 @@ pub fn closing_day(t: &[u8], n: usize, i: usize) -> usize
     requires { TermsOf t.now n × (i < n) }
     ensures { result ≡ closing n t.now i }
 {
-    octets::number2(t, 2 + 2 * n + 2 * i)
+    octets::number::<2>(t, 2 + 2 * n + 2 * i)
 }
 
 // Whether slot i is on show on a day.
@@ -68,8 +56,5 @@ pub fn on_show(t: &[u8], n: usize, i: usize, day: usize) -> bool
     requires { TermsOf t.now n × (i < n) }
     ensures { result ≡ on_show n t.now i day }
 {
-    if day < opening_day(t, n, i) {
-        return false;
-    }
-    day <= closing_day(t, n, i)
+    opening_day(t, n, i) <= day && day <= closing_day(t, n, i)
 }

@@ -1,9 +1,10 @@
 -- The rows of the grammar that begin with a byte, by one test of all 256.
-use Prim.Native.Nat.{ℕ, zero, suc, ◌≤◌, ◌<◌}
-use mathlib.Core.Path.{◌≡◌, refl, ap, ap₂, ◌∙◌}
+use Prim.Native.Nat.{ℕ, ◌≤◌, ◌<◌}
+use mathlib.Core.Path.{◌≡◌, refl, ap₂}
 use mathlib.Core.Bool.{Bool, true, false, ◌&&◌, false≢true}
 use mathlib.Core.List.{List, [], ◌∷◌}
 use native.Mathlib.Omega.{arith}
+use Rattle.std.specs.Prelude.{Option, Some, None}
 use lib.Dec.{T, eqb, ltb}
 use borrow.Author.Tests.{eqb-true, ne_eqb, lt-ltb, le-ltb}
 use Rattle.octets.specs.Bytes.{if◌then◌otherwise◌}
@@ -12,13 +13,10 @@ use Rattle.octets.proofs.Test.{below}
 use Rattle.text.specs.Grammar.{Range, ◌to◌, tail, forms, inside, after}
 use Rattle.text.specs.Steps.{following, second_low, second_high, second, ahead}
 
--- what is left of the row that begins with x
-unfoldable begun : ℕ → ℕ → List (List Range)
-begun x zero = []
-begun x (suc n) = ahead x (suc n) ∷ []
-
-unfoldable lead : ℕ → List (List Range)
-lead x = if ltb x 0x80 then [] ∷ [] otherwise begun x (following x)
+-- the rows that begin with x, without that byte: the one with so many bytes more, or none
+unfoldable pub begun : ℕ → Option ℕ → List (List Range)
+begun x None = []
+begun x (Some n) = ahead x n ∷ []
 
 -- ---- equal rows
 
@@ -48,75 +46,63 @@ T_true : (b : Bool) → T b → b ≡ true
 T_true true t = refl
 T_true false t = absurd t
 
-leads : (x : ℕ) → x < 256 → after x forms ≡ lead x
-unfolding forms inside after begun lead following ahead second second_low second_high
+pub leads : (x : ℕ) → x < 256 → after x forms ≡ begun x (following x)
+unfolding forms inside after begun following ahead second second_low second_high
 leads x h =
-    same_list_lem (same_list same_range same_range_lem) (same_list_lem same_range same_range_lem) (after x forms) (lead x)
-    (T_true (same_rows (after x forms) (lead x)) (below 256 (λ x. same_rows (after x forms) (lead x)) tt x h))
+    same_list_lem (same_list same_range same_range_lem) (same_list_lem same_range same_range_lem) (after x forms) (begun x (following x))
+    (T_true (same_rows (after x forms) (begun x (following x))) (below 256 (λ x. same_rows (after x forms) (begun x (following x))) tt x h))
 
 -- ---- by the first byte
 
 module _ (x : ℕ) where
-  pub begins_one : x < 0x80 → after x forms ≡ [] ∷ []
-  unfolding lead
-  begins_one h = leads x (omega arith) ∙ rw (lt-ltb x 0x80 h)
-
-  begins : 0x80 ≤ x → x < 256 → after x forms ≡ begun x (following x)
-  unfolding lead
-  begins l h = leads x h ∙ rw (le-ltb x 0x80 l)
-
-  pub begins_none : 0x80 ≤ x → x < 256 → following x ≡ 0 → after x forms ≡ []
-  unfolding begun
-  begins_none l h e = begins l h ∙ ap (begun x) e
-
-  pub begins_more : (n : ℕ) → 0x80 ≤ x → x < 256 → following x ≡ suc n → after x forms ≡ ahead x (suc n) ∷ []
-  unfolding begun
-  begins_more n l h e = begins l h ∙ ap (begun x) e
-
-  pub follows_none : x < 0xC2 → 0 ≡ following x
+  pub follows_one : x < 0x80 → Some 0 ≡ following x
   unfolding following
-  follows_none h = rw (lt-ltb x 0xC2 h)
+  follows_one h = rw (lt-ltb x 0x80 h)
 
-  pub follows_one : 0xC2 ≤ x → x < 0xE0 → 1 ≡ following x
+  pub follows_none : 0x80 ≤ x → x < 0xC2 → None ≡ following x
   unfolding following
-  follows_one l h = rw (le-ltb x 0xC2 l, lt-ltb x 0xE0 h)
+  follows_none l h = rw (le-ltb x 0x80 l, lt-ltb x 0xC2 h)
 
-  pub follows_two : 0xE0 ≤ x → x < 0xF0 → 2 ≡ following x
+  pub follows_two : 0xC2 ≤ x → x < 0xE0 → Some 1 ≡ following x
   unfolding following
-  follows_two l h = let a : 0xC2 ≤ x = omega arith in rw (le-ltb x 0xC2 a, le-ltb x 0xE0 l, lt-ltb x 0xF0 h)
+  follows_two l h = let a : 0x80 ≤ x = omega arith in rw (le-ltb x 0x80 a, le-ltb x 0xC2 l, lt-ltb x 0xE0 h)
 
-  pub follows_three : 0xF0 ≤ x → x < 0xF5 → 3 ≡ following x
+  pub follows_three : 0xE0 ≤ x → x < 0xF0 → Some 2 ≡ following x
   unfolding following
   follows_three l h =
-      let a : 0xC2 ≤ x = omega arith in
-      let b : 0xE0 ≤ x = omega arith in
-      rw (le-ltb x 0xC2 a, le-ltb x 0xE0 b, le-ltb x 0xF0 l, lt-ltb x 0xF5 h)
+      let a : 0x80 ≤ x = omega arith in
+      let b : 0xC2 ≤ x = omega arith in
+      rw (le-ltb x 0x80 a, le-ltb x 0xC2 b, le-ltb x 0xE0 l, lt-ltb x 0xF0 h)
 
-  pub follows_above : 0xF5 ≤ x → 0 ≡ following x
+  pub follows_four : 0xF0 ≤ x → x < 0xF5 → Some 3 ≡ following x
+  unfolding following
+  follows_four l h =
+      let a : 0x80 ≤ x = omega arith in
+      let b : 0xC2 ≤ x = omega arith in
+      let c : 0xE0 ≤ x = omega arith in
+      rw (le-ltb x 0x80 a, le-ltb x 0xC2 b, le-ltb x 0xE0 c, le-ltb x 0xF0 l, lt-ltb x 0xF5 h)
+
+  pub follows_above : 0xF5 ≤ x → None ≡ following x
   unfolding following
   follows_above l =
-      let a : 0xC2 ≤ x = omega arith in
-      let b : 0xE0 ≤ x = omega arith in
-      let c : 0xF0 ≤ x = omega arith in
-      rw (le-ltb x 0xC2 a, le-ltb x 0xE0 b, le-ltb x 0xF0 c, le-ltb x 0xF5 l)
+      let a : 0x80 ≤ x = omega arith in
+      let b : 0xC2 ≤ x = omega arith in
+      let c : 0xE0 ≤ x = omega arith in
+      let d : 0xF0 ≤ x = omega arith in
+      rw (le-ltb x 0x80 a, le-ltb x 0xC2 b, le-ltb x 0xE0 c, le-ltb x 0xF0 d, le-ltb x 0xF5 l)
 
-  -- the range of the byte after x: that of a tail, but for four bytes
-  pub after_E0 : x ≡ 0xE0 → second x ≡ 0xA0 to 0xBF
-  unfolding second second_low second_high
-  after_E0 e = rw e
+  pub follows_few : (n : ℕ) → 0x80 ≤ x → Some n ≡ following x → (1 ≤ n) × (n ≤ 3)
+  unfolding following
+  follows_few n l e = go (ltb x 0xC2) (ltb x 0xE0) (ltb x 0xF0) (ltb x 0xF5) (rw (le-ltb x 0x80 l) at e)
+    where
+      go : (a b c d : Bool) → Some n ≡ (if a then None otherwise if b then Some 1 otherwise if c then Some 2 otherwise if d then Some 3 otherwise None) → (1 ≤ n) × (n ≤ 3)
+      go true b c d e = absurd (cc)
+      go false true c d e = let q : n ≡ 1 = cc in (omega arith, omega arith)
+      go false false true d e = let q : n ≡ 2 = cc in (omega arith, omega arith)
+      go false false false true e = let q : n ≡ 3 = cc in (omega arith, omega arith)
+      go false false false false e = absurd (cc)
 
-  pub after_ED : x ≡ 0xED → second x ≡ 0x80 to 0x9F
+  -- the range of the byte after x is that of a tail, but for four bytes
+  pub second_tail : (x ≡ 0xE0 → ⊥) → (x ≡ 0xED → ⊥) → (x ≡ 0xF0 → ⊥) → (x ≡ 0xF4 → ⊥) → second x ≡ tail
   unfolding second second_low second_high
-  after_ED e = rw e
-
-  pub after_F0 : x ≡ 0xF0 → second x ≡ 0x90 to 0xBF
-  unfolding second second_low second_high
-  after_F0 e = rw e
-
-  pub after_F4 : x ≡ 0xF4 → second x ≡ 0x80 to 0x8F
-  unfolding second second_low second_high
-  after_F4 e = rw e
-
-  pub second_tail : (x ≡ 0xE0 → ⊥) → (x ≡ 0xF0 → ⊥) → (x ≡ 0xED → ⊥) → (x ≡ 0xF4 → ⊥) → second x ≡ tail
-  unfolding second second_low second_high
-  second_tail a b c d = rw (ne_eqb x 0xE0 a, ne_eqb x 0xF0 b, ne_eqb x 0xED c, ne_eqb x 0xF4 d)
+  second_tail a b c d = rw (ne_eqb x 0xE0 a, ne_eqb x 0xF0 c, ne_eqb x 0xED b, ne_eqb x 0xF4 d)

@@ -1,130 +1,20 @@
 -- Laws of the code, one for each way out of a function.
 use Prim.Native.Nat.{ℕ, zero, suc, ◌+◌, ◌-◌, ◌≤◌, ◌<◌}
 use mathlib.Core.Path.{◌≡◌, refl, sym, ap, ◌∙◌, subst}
-use mathlib.Core.Bool.{Bool, true, false, ◌&&◌, ◌||◌, false≢true}
-use mathlib.Core.List.{List, [], ◌∷◌}
-use native.Mathlib.Decide.{dec_lt}
-use native.Mathlib.Nat.{add-zero}
+use mathlib.Core.Bool.{Bool, true, false, ◌&&◌, ◌||◌}
+use mathlib.Core.List.{List, [], ◌∷◌, ◌++◌}
+use mathlib.Core.Logic.{◌⊎◌, inl, inr}
 use native.Mathlib.Omega.{arith}
-use lib.Bits.{bit_or, or_add_and, and_le_l, and_le_r}
-use lib.Dec.{leb, ltb, eqb}
-use lib.ListN.{length, get_or, drop, replicate, length-drop, drop_of_length-le, length-replicate}
-use borrow.Author.Tests.{le-leb, lt-leb, eq-eqb, ne_eqb, ltb-true}
-use Rattle.octets.proofs.Bool.{and_false_left, and_false_right, if_true, if_false}
-use Rattle.octets.proofs.Parts.{drop_next}
-use Rattle.text.specs.Grammar.{Range, ◌to◌, tail, forms, inside, after, some, meets, well_formed}
-use Rattle.text.specs.Steps.{following, second, ahead, Passes, Rest, Character}
-use Rattle.text.proofs.Leads.{begins_one, begins_none, begins_more, follows_none, follows_one, follows_two, follows_three, follows_above, after_E0, after_ED, after_F0, after_F4, second_tail}
-
--- ---- a byte and a range
-
-module _ (low high y : ℕ) where
-  pub below : y < low → false ≡ inside (low to high) y
-  unfolding inside
-  below h = rw (lt-leb low y h)
-
-  pub from : low ≤ y → leb y high ≡ inside (low to high) y
-  unfolding inside
-  from h = rw (le-leb low y h)
-
--- the byte after x, by the test of its range
-module _ (x y : ℕ) (b : Bool) where
-  pub second_E0 : x ≡ 0xE0 → b ≡ inside (0xA0 to 0xBF) y → b ≡ inside (second x) y
-  second_E0 e q = q ∙ ap (λ (r : Range). inside r y) (sym (after_E0 x e))
-
-  pub second_ED : x ≡ 0xED → b ≡ inside (0x80 to 0x9F) y → b ≡ inside (second x) y
-  second_ED e q = q ∙ ap (λ (r : Range). inside r y) (sym (after_ED x e))
-
-  pub second_F0 : x ≡ 0xF0 → b ≡ inside (0x90 to 0xBF) y → b ≡ inside (second x) y
-  second_F0 e q = q ∙ ap (λ (r : Range). inside r y) (sym (after_F0 x e))
-
-  pub second_F4 : x ≡ 0xF4 → b ≡ inside (0x80 to 0x8F) y → b ≡ inside (second x) y
-  second_F4 e q = q ∙ ap (λ (r : Range). inside r y) (sym (after_F4 x e))
-
-  pub second_other : (x ≡ 0xE0 → ⊥) → (x ≡ 0xED → ⊥) → (x ≡ 0xF0 → ⊥) → (x ≡ 0xF4 → ⊥) → b ≡ inside tail y → b ≡ inside (second x) y
-  second_other a c d e q = q ∙ ap (λ (r : Range). inside r y) (sym (second_tail x a d c e))
-
--- ---- bytes that lie in ranges
-
--- fewer than the ranges
-meets_short : (s : List ℕ) (ranges : List Range) → length s < length ranges → meets s ranges ≡ false
-unfolding meets
-meets_short s [] h = absurd (omega arith)
-meets_short [] (r ∷ ranges) h = refl
-meets_short (x ∷ s) (r ∷ ranges) h = and_false_right (inside r x) (meets s ranges) (meets_short s ranges (omega arith))
-
-length_ahead : (x n : ℕ) → length (ahead x n) ≡ n
-unfolding ahead
-length_ahead x zero = refl
-length_ahead x (suc n) = ap suc (length-replicate n tail)
-
-module _ (s : List ℕ) (i j : ℕ) (e : i + 1 ≡ j) (l : i < length s) (r : Range) where
-  -- a byte more
-  next : (ranges : List Range) → meets (drop i s) (r ∷ ranges) ≡ inside r (get_or s i 0) && meets (drop j s) ranges
-  unfolding meets
-  next ranges = rw (drop_next s i l, e)
-
-  stops : (ranges : List Range) (b : Bool) → b ≡ inside r (get_or s i 0) → b ≡ false → false ≡ meets (drop i s) (r ∷ ranges)
-  stops ranges b q f = sym (next ranges ∙ and_false_left (inside r (get_or s i 0)) (meets (drop j s) ranges) (sym q ∙ f))
-
-  goes : (ranges : List Range) (b : Bool) → b ≡ inside r (get_or s i 0) → b ≡ true → meets (drop i s) (r ∷ ranges) ≡ meets (drop j s) ranges
-  goes ranges b q f = next ranges ∙ ap (λ c. c && meets (drop j s) ranges) (sym q ∙ f)
-
-  ends : (b : Bool) → b ≡ inside r (get_or s i 0) → b && well_formed (drop j s) ≡ meets (drop i s) (r ∷ [])
-  unfolding well_formed
-  ends b q = rw q (sym (next []))
-
--- ---- the bytes after the first of a character
-
-module _ (s : List ℕ) (i x : ℕ) (l : i < length s) where
-  refused : (n : ℕ) → false ≡ meets (drop (i + 1) s) (ahead x n) → Rest s i x n false
-  refused n e = record { within = λ t. absurd (false≢true t); same = e }
-
-  settled : (n : ℕ) (b : Bool) → n < length s - i → b && well_formed (drop (i + (n + 1)) s) ≡ meets (drop (i + 1) s) (ahead x n) → Rest s i x n b
-  settled n b h e = record { within = λ t. omega arith; same = e }
-
-  pub cut_off : (n : ℕ) → length s - i < suc n → Rest s i x n false
-  cut_off n h = refused n (sym (meets_short (drop (i + 1) s) (ahead x n) (omega (arith, length-drop (i + 1) s, length_ahead x n))))
-
-  module _ (a : Bool) (e : a ≡ inside (second x) (get_or s (i + 1) 0)) where
-    second_stops : (n : ℕ) → suc n < length s - i → a ≡ false → Rest s i x (suc n) false
-    unfolding ahead
-    second_stops n h f = refused (suc n) (stops s (i + 1) (i + 2) (omega arith) (omega arith) (second x) (replicate n tail) a e f)
-
-    pub second_of_three : 3 ≤ length s - i → a ≡ false → Rest s i x 2 false
-    second_of_three = second_stops 1
-
-    pub second_of_four : 4 ≤ length s - i → a ≡ false → Rest s i x 3 false
-    second_of_four = second_stops 2
-
-    second_ends : 2 ≤ length s - i → Rest s i x 1 a
-    unfolding ahead
-    second_ends h = settled 1 a h (ends s (i + 1) (i + 2) (omega arith) (omega arith) (second x) a e)
-
-    module _ (t : a ≡ true) (b : Bool) (e' : b ≡ inside tail (get_or s (i + 2) 0)) where
-      past_second : (ranges : List Range) → 3 ≤ length s - i → meets (drop (i + 1) s) (second x ∷ ranges) ≡ meets (drop (i + 2) s) ranges
-      past_second ranges h = goes s (i + 1) (i + 2) (omega arith) (omega arith) (second x) ranges a e t
-
-      pub third_ends : 3 ≤ length s - i → Rest s i x 2 b
-      unfolding ahead
-      third_ends h = settled 2 b h (ends s (i + 2) (i + 3) (omega arith) (omega arith) tail b e' ∙ sym (past_second (tail ∷ []) h))
-
-      pub third_stops : 4 ≤ length s - i → b ≡ false → Rest s i x 3 false
-      unfolding ahead
-      third_stops h f = refused 3 (stops s (i + 2) (i + 3) (omega arith) (omega arith) tail (tail ∷ []) b e' f ∙ sym (past_second (tail ∷ tail ∷ []) (omega arith)))
-
-      pub fourth_ends : (c : Bool) → 4 ≤ length s - i → b ≡ true → c ≡ inside tail (get_or s (i + 3) 0) → Rest s i x 3 c
-      unfolding ahead
-      fourth_ends c h f e'' =
-          settled 3 c h
-          (ends s (i + 3) (i + 4) (omega arith) (omega arith) tail c e''
-          ∙ sym (goes s (i + 2) (i + 3) (omega arith) (omega arith) tail (tail ∷ []) b e' f)
-          ∙ sym (past_second (tail ∷ tail ∷ []) (omega arith)))
-
--- of two bytes the second is a tail
-pub two_ends : (s : List ℕ) (i x : ℕ) → i < length s → x < 0xE0 → (a : Bool) → a ≡ inside tail (get_or s (i + 1) 0) → 2 ≤ length s - i → Rest s i x 1 a
-two_ends s i x l h a e =
-    second_ends s i x l a (e ∙ ap (λ (r : Range). inside r (get_or s (i + 1) 0)) (sym (second_tail x (λ q. omega arith) (λ q. omega arith) (λ q. omega arith) (λ q. omega arith))))
+use lib.Bits.{bit_or}
+use lib.ListN.{length, get_or, take, drop, length-drop, length-replicate}
+use borrow.Author.Count.{below_more}
+use Rattle.std.specs.Prelude.{Option, Some, None}
+use Rattle.std.proofs.lemmas.Nat.{le_or_l, le_or_r}
+use Rattle.std.proofs.lemmas.List.{take-append-drop, take_all, get_or-replicate}
+use Rattle.octets.proofs.Bool.{and_false_left, and_false_right}
+use Rattle.text.specs.Grammar.{Range, tail, inside, some, meets, well_formed}
+use Rattle.text.specs.Steps.{following, second, ahead, Passes}
+use Rattle.text.proofs.Leads.{begun, leads, follows_one, follows_few}
 
 -- ---- a character by its first byte
 
@@ -132,117 +22,168 @@ or_false : (b : Bool) → b || false ≡ b
 or_false true = refl
 or_false false = refl
 
-module _ (s : List ℕ) (i : ℕ) (l : i < length s) where
-  by_rows : (rows : List (List Range)) → after (get_or s i 0) forms ≡ rows → well_formed (drop i s) ≡ some rows (meets (drop (i + 1) s))
+module _ (x : ℕ) (s : List ℕ) (h : x < 256) where
+  by_rows : (n : Option ℕ) → n ≡ following x → well_formed (x ∷ s) ≡ some (begun x n) (meets s)
   unfolding well_formed meets
-  by_rows rows e = rw (drop_next s i l) (ap (λ r. some r (meets (drop (i + 1) s))) e)
+  by_rows n e = ap (λ r. some r (meets s)) (leads x h) ∙ ap (λ m. some (begun x m) (meets s)) (sym e)
 
-  by_row : (row : List Range) → after (get_or s i 0) forms ≡ row ∷ [] → well_formed (drop i s) ≡ meets (drop (i + 1) s) row
-  unfolding some
-  by_row row e = by_rows (row ∷ []) e ∙ or_false (meets (drop (i + 1) s) row)
+  pub by_none : None ≡ following x → well_formed (x ∷ s) ≡ false
+  unfolding some begun
+  by_none e = by_rows None e
 
-  module _ (p : 0x80 ≤ get_or s i 0) (h : get_or s i 0 < 256) where
-    no_character : 0 ≡ following (get_or s i 0) → Character s i 0
-    unfolding some
-    no_character e = record { within = omega arith; same = sym (by_rows [] (begins_none (get_or s i 0) p h (sym e))) }
+  by_ahead : (n : ℕ) → Some n ≡ following x → well_formed (x ∷ s) ≡ meets s (ahead x n)
+  unfolding some begun
+  by_ahead n e = by_rows (Some n) e ∙ or_false (meets s (ahead x n))
 
-    module _ (n : ℕ) (e : suc n ≡ following (get_or s i 0)) (b : Bool) (r : Rest s i (get_or s i 0) (suc n) b) where
-      row : well_formed (drop i s) ≡ meets (drop (i + 1) s) (ahead (get_or s i 0) (suc n))
-      row = by_row (ahead (get_or s i 0) (suc n)) (begins_more (get_or s i 0) n p h (sym e))
+by_one : (x : ℕ) (s : List ℕ) → x < 0x80 → well_formed (x ∷ s) ≡ well_formed s
+unfolding ahead well_formed
+by_one x s h = by_ahead x s (omega arith) 0 (follows_one x h)
 
-      whole : b ≡ true → Character s i (suc n + 1)
-      whole t =
-          let d : suc n + 1 ≡ 0 → ⊥ = λ q. omega arith in
-          record { within = r.within t; same = rw (ne_eqb (suc n + 1) 0 d) (ap (λ c. c && well_formed (drop (i + (suc n + 1)) s)) (sym t) ∙ r.same ∙ sym row) }
+-- ---- bytes that lie in ranges
 
-      broken : b ≡ false → Character s i 0
-      broken f = record { within = omega arith; same = sym (row ∙ sym r.same ∙ ap (λ c. c && well_formed (drop (i + (suc n + 1)) s)) f) }
+-- fewer than the ranges, or one outside its range
+meets_short : (s : List ℕ) (ranges : List Range) → length s < length ranges → meets s ranges ≡ false
+unfolding meets
+meets_short s [] h = absurd (omega arith)
+meets_short [] (r ∷ ranges) h = refl
+meets_short (x ∷ s) (r ∷ ranges) h = and_false_right (inside r x) (meets s ranges) (meets_short s ranges (omega arith))
 
-  pub no_first : 0x80 ≤ get_or s i 0 → get_or s i 0 < 0xC2 → Character s i 0
-  no_first p h = no_character p (omega arith) (follows_none (get_or s i 0) h)
+meets_outside : (s : List ℕ) (ranges : List Range) (k : ℕ) → k < length s → k < length ranges → inside (get_or ranges k tail) (get_or s k 0) ≡ false → meets s ranges ≡ false
+unfolding meets
+meets_outside [] ranges k l h e = absurd (omega arith)
+meets_outside (x ∷ s) [] k l h e = absurd (omega arith)
+meets_outside (x ∷ s) (r ∷ ranges) zero l h e = and_false_left (inside r x) (meets s ranges) e
+meets_outside (x ∷ s) (r ∷ ranges) (suc k) l h e = and_false_right (inside r x) (meets s ranges) (meets_outside s ranges k (omega arith) (omega arith) e)
 
-  pub above_first : 0xF4 < get_or s i 0 → get_or s i 0 < 256 → Character s i 0
-  above_first p h = no_character (omega arith) h (follows_above (get_or s i 0) (omega arith))
+length_ahead : (x n : ℕ) → length (ahead x n) ≡ n
+unfolding ahead
+length_ahead x zero = refl
+length_ahead x (suc n) = ap suc (length-replicate n tail)
 
-  module _ (b : Bool) where
-    pub two_whole : 0xC2 ≤ get_or s i 0 → get_or s i 0 < 0xE0 → Rest s i (get_or s i 0) 1 b → b ≡ true → Character s i 2
-    two_whole p h r = whole (omega arith) (omega arith) 0 (follows_one (get_or s i 0) p h) b r
+-- the first is the one after x, and the further ones are those of tails
+ahead_first : (x n : ℕ) → 1 ≤ n → get_or (ahead x n) 0 tail ≡ second x
+unfolding ahead
+ahead_first x zero h = absurd (omega arith)
+ahead_first x (suc n) h = refl
 
-    pub two_broken : 0xC2 ≤ get_or s i 0 → get_or s i 0 < 0xE0 → Rest s i (get_or s i 0) 1 b → b ≡ false → Character s i 0
-    two_broken p h r = broken (omega arith) (omega arith) 0 (follows_one (get_or s i 0) p h) b r
+ahead_further : (x n k : ℕ) → suc k < n → get_or (ahead x n) (suc k) tail ≡ tail
+unfolding ahead
+ahead_further x zero k h = absurd (omega arith)
+ahead_further x (suc n) k h = get_or-replicate n k tail tail (omega arith)
 
-    pub three_whole : 0xE0 ≤ get_or s i 0 → get_or s i 0 < 0xF0 → Rest s i (get_or s i 0) 2 b → b ≡ true → Character s i 3
-    three_whole p h r = whole (omega arith) (omega arith) 1 (follows_two (get_or s i 0) p h) b r
+-- ---- a character of more than one byte that stops short
 
-    pub three_broken : 0xE0 ≤ get_or s i 0 → get_or s i 0 < 0xF0 → Rest s i (get_or s i 0) 2 b → b ≡ false → Character s i 0
-    three_broken p h r = broken (omega arith) (omega arith) 1 (follows_two (get_or s i 0) p h) b r
+module _ (x : ℕ) (s : List ℕ) (h : x < 256) (n : ℕ) (e : Some n ≡ following x) where
+  pub cut_off : length s < n → well_formed (x ∷ s) ≡ false
+  cut_off l = by_ahead x s h n e ∙ meets_short s (ahead x n) (omega (arith, length_ahead x n))
 
-    pub four_whole : 0xF0 ≤ get_or s i 0 → get_or s i 0 ≤ 0xF4 → Rest s i (get_or s i 0) 3 b → b ≡ true → Character s i 4
-    four_whole p h r = whole (omega arith) (omega arith) 2 (follows_three (get_or s i 0) p (omega arith)) b r
+  outside : (k : ℕ) → k < n → k < length s → inside (get_or (ahead x n) k tail) (get_or s k 0) ≡ false → well_formed (x ∷ s) ≡ false
+  outside k i l f = by_ahead x s h n e ∙ meets_outside s (ahead x n) k l (omega (arith, length_ahead x n)) f
 
-    pub four_broken : 0xF0 ≤ get_or s i 0 → get_or s i 0 ≤ 0xF4 → Rest s i (get_or s i 0) 3 b → b ≡ false → Character s i 0
-    four_broken p h r = broken (omega arith) (omega arith) 2 (follows_three (get_or s i 0) p (omega arith)) b r
+  pub second_outside : 1 ≤ n → 1 ≤ length s → false ≡ inside (second x) (get_or s 0 0) → well_formed (x ∷ s) ≡ false
+  second_outside i l f = outside 0 (omega arith) (omega arith) (rw (ahead_first x n i) (sym f))
 
--- ---- places that are passed
+  pub third_outside : 2 ≤ n → 2 ≤ length s → false ≡ inside tail (get_or s 1 0) → well_formed (x ∷ s) ≡ false
+  third_outside i l f = outside 1 (omega arith) (omega arith) (rw (ahead_further x n 0 (omega arith)) (sym f))
 
-pub passes_none : (s : List ℕ) (i : ℕ) → i ≤ length s → Passes s i i
-passes_none s i h = record { onward = omega arith; within = h; same = refl }
+  pub fourth_outside : 3 ≤ n → 3 ≤ length s → false ≡ inside tail (get_or s 2 0) → well_formed (x ∷ s) ≡ false
+  fourth_outside i l f = outside 2 (omega arith) (omega arith) (rw (ahead_further x n 1 (omega arith)) (sym f))
 
-pub passes_then : (s : List ℕ) (i j k : ℕ) → Passes s i j → Passes s j k → Passes s i k
-passes_then s i j k p q = record { onward = omega (arith, p.onward, q.onward); within = q.within; same = q.same ∙ p.same }
+-- as many bytes follow as there are cases for
+pub no_other : (x : ℕ) (s : List ℕ) (n : ℕ) → 0x80 ≤ x → Some n ≡ following x → (n ≡ 1 → ⊥) → (n ≡ 2 → ⊥) → (n ≡ 3 → ⊥) → well_formed (x ∷ s) ≡ false
+no_other x s n h e a b c = absurd (omega (arith, a, b, c, (follows_few x n h e).0, (follows_few x n h e).1))
 
--- a byte below 0x80 is passed
-pub passes_byte : (s : List ℕ) (i j : ℕ) → i + 1 ≡ j → i < length s → get_or s i 0 < 0x80 → Passes s i j
-unfolding well_formed
-passes_byte s i j e l h =
-    record { onward = omega arith; within = omega arith; same = ap (λ k. meets (drop k s) []) (sym e) ∙ sym (by_row s i l [] (begins_one (get_or s i 0) h)) }
+-- ---- a character of more than one byte that is passed
 
-pub passes_more : (s : List ℕ) (i j : ℕ) → Passes s i j → j < length s → get_or s j 0 < 0x80 → Passes s i (j + 1)
-passes_more s i j p l h = passes_then s i j (j + 1) p (passes_byte s j (j + 1) refl l h)
+rest_of : (k : ℕ) (s : List ℕ) → take (length s - k) (drop k s) ≡ drop k s
+rest_of k s = take_all (length s - k) (drop k s) (omega (arith, length-drop k s))
 
--- bytes gathered in x
-or_left : (a b : ℕ) → a ≤ bit_or a b
-or_left a b = omega (arith, or_add_and a b, and_le_r a b)
+passes_rest : (x : ℕ) (s : List ℕ) (k : ℕ) → k ≤ length s → well_formed (x ∷ s) ≡ well_formed (drop k s) → Passes (x ∷ s) (take (length s - k) (drop k s))
+passes_rest x s k l e = rw (rest_of k s) (record { shorter = omega (arith, length-drop k s); same = sym e })
 
-or_right : (a b : ℕ) → b ≤ bit_or a b
-or_right a b = omega (arith, or_add_and a b, and_le_l a b)
+-- the bytes ahead of one, two and three
+ahead_two : (x : ℕ) (s : List ℕ) → 1 ≤ length s → meets s (ahead x 1) ≡ inside (second x) (get_or s 0 0) && well_formed (drop 1 s)
+unfolding meets ahead well_formed
+ahead_two x [] l = absurd (omega arith)
+ahead_two x (y ∷ s) l = refl
 
-pub record Gathered (s : List ℕ) (i j x : ℕ) : Type 0 where
-  pub passes : x < 0x80 → Passes s i (i + j)
+ahead_three : (x : ℕ) (s : List ℕ) → 2 ≤ length s → meets s (ahead x 2) ≡ inside (second x) (get_or s 0 0) && (inside tail (get_or s 1 0) && well_formed (drop 2 s))
+unfolding meets ahead well_formed
+ahead_three x [] l = absurd (omega arith)
+ahead_three x (y ∷ []) l = absurd (omega arith)
+ahead_three x (y ∷ z ∷ s) l = refl
 
-pub gathered_none : (s : List ℕ) (i : ℕ) → i + 32 ≤ length s → Gathered s i 0 0
-gathered_none s i h = record { passes = λ p. rw (add-zero i) (passes_none s i (omega arith)) }
+ahead_four : (x : ℕ) (s : List ℕ) → 3 ≤ length s
+    → meets s (ahead x 3) ≡ inside (second x) (get_or s 0 0) && (inside tail (get_or s 1 0) && (inside tail (get_or s 2 0) && well_formed (drop 3 s)))
+unfolding meets ahead well_formed
+ahead_four x [] l = absurd (omega arith)
+ahead_four x (y ∷ []) l = absurd (omega arith)
+ahead_four x (y ∷ z ∷ []) l = absurd (omega arith)
+ahead_four x (y ∷ z ∷ w ∷ s) l = refl
 
-pub gathered_next : (s : List ℕ) (i j x : ℕ) → Gathered s i j x → i + 32 ≤ length s → j < 32 → Gathered s i (j + 1) (bit_or x (get_or s (i + j) 0))
-gathered_next s i j x g l h =
-    record {
-      passes =
-          λ p. passes_then s i (i + j) (i + (j + 1)) (g.passes (omega (arith, or_left x (get_or s (i + j) 0))))
-          (passes_byte s (i + j) (i + (j + 1)) (omega arith) (omega arith) (omega (arith, or_right x (get_or s (i + j) 0))));
-    }
+module _ (x : ℕ) (s : List ℕ) (h : x < 256) (n : ℕ) (e : Some n ≡ following x) (a : true ≡ inside (second x) (get_or s 0 0)) where
+  by_number : (k : ℕ) → n ≡ k → well_formed (x ∷ s) ≡ meets s (ahead x k)
+  by_number k q = by_ahead x s h n e ∙ ap (λ m. meets s (ahead x m)) q
 
-pub gathered_all : (s : List ℕ) (i j x : ℕ) → Gathered s i j x → 32 ≤ j → j ≤ 32 → ltb x 0x80 ≡ true → Passes s i (i + 32)
-gathered_all s i j x g l h t = subst (λ k. Passes s i (i + k)) {x = j} {y = 32} (omega arith) (g.passes (ltb-true x 0x80 t))
+  pub passes_two : n ≡ 1 → 1 ≤ length s → Passes (x ∷ s) (take (length s - 1) (drop 1 s))
+  passes_two q l = passes_rest x s 1 l (by_number 1 q ∙ ahead_two x s l ∙ rw (← a))
 
--- ---- blocks, single bytes and characters that are passed
+  module _ (b : true ≡ inside tail (get_or s 1 0)) where
+    pub passes_three : n ≡ 2 → 2 ≤ length s → Passes (x ∷ s) (take (length s - 2) (drop 2 s))
+    passes_three q l = passes_rest x s 2 l (by_number 2 q ∙ ahead_three x s l ∙ rw (← a, ← b))
 
-pub block_next : (s : List ℕ) (i j : ℕ) (b : Bool) → Passes s i j → b ≡ true → (b ≡ true → Passes s j (j + 32)) → Passes s i (j + 32)
-block_next s i j b p t f = passes_then s i j (j + 32) p (f t)
+    pub passes_four : true ≡ inside tail (get_or s 2 0) → n ≡ 3 → 3 ≤ length s → Passes (x ∷ s) (take (length s - 3) (drop 3 s))
+    passes_four c q l = passes_rest x s 3 l (by_number 3 q ∙ ahead_four x s l ∙ rw (← a, ← b, ← c))
 
--- no place before the first byte of 0x80 or above
-pub moved : (s : List ℕ) (i j : ℕ) → Passes s i j → get_or s i 0 < 0x80 → 0x80 ≤ get_or s j 0 → i < j
-moved s i j p h g = go (dec_lt i j)
-  where
-    go : Dec (i < j) → i < j
-    go (yes l) = l
-    go (no l) = absurd (omega (arith, ap (λ k. get_or s k 0) {x = i} {y = j} (omega (arith, p.onward))))
+-- ---- characters of one byte
 
-pub left_character : (s : List ℕ) (i n : ℕ) → Passes s 0 i → Character s i n → (n ≡ 0 → ⊥) → Passes s 0 (i + n)
-left_character s i n p q d = record { onward = omega arith; within = q.within; same = sym (if_false (eqb n 0) false (well_formed (drop (i + n) s)) (ne_eqb n 0 d)) ∙ q.same ∙ p.same }
+-- bytes gathered in x: none of them is above it
+pub gathered_next : (s : List ℕ) (i x : ℕ) → ((k : ℕ) → k < i → get_or s k 0 ≤ x) → (k : ℕ) → k < i + 1 → get_or s k 0 ≤ bit_or x (get_or s i 0)
+gathered_next s i x f =
+    below_more (λ k. get_or s k 0 ≤ bit_or x (get_or s i 0)) i (λ k h. omega (arith, f k h, le_or_l x (get_or s i 0))) (le_or_r x (get_or s i 0))
 
-pub text_broken : (s : List ℕ) (i n : ℕ) → Passes s 0 i → Character s i n → n ≡ 0 → false ≡ well_formed s
-text_broken s i n p q e = sym (if_true (eqb n 0) false (well_formed (drop (i + n) s)) (eq-eqb n 0 e)) ∙ q.same ∙ p.same
+well_formed_block : (s t : List ℕ) → ((k : ℕ) → k < length s → get_or s k 0 < 0x80) → well_formed (s ++ t) ≡ well_formed t
+well_formed_block [] t f = refl
+well_formed_block (x ∷ s) t f = by_one x (s ++ t) (f 0 (omega arith)) ∙ well_formed_block s t (λ k h. f (suc k) (omega arith))
 
-pub text_whole : (s : List ℕ) (i : ℕ) → Passes s 0 i → length s ≤ i → true ≡ well_formed s
-unfolding well_formed meets
-text_whole s i p h = sym (ap well_formed (drop_of_length-le s h)) ∙ p.same
+-- ---- what is passed
+
+pub passes_then : (s r t : List ℕ) → Passes s r → Passes r t → Passes s t
+passes_then s r t p q = record { shorter = omega (arith, p.shorter, q.shorter); same = q.same ∙ p.same }
+
+pub passes_first : (s : List ℕ) → 1 ≤ length s → get_or s 0 0 < 0x80 → Passes s (take (length s - 1) (drop 1 s))
+passes_first [] l h = absurd (omega arith)
+passes_first (x ∷ s) l h = rw (rest_of 1 (x ∷ s)) (record { shorter = omega arith; same = sym (by_one x s h) })
+
+pub passes_block : (s block rest : List ℕ) → block ≡ take 32 s → rest ≡ drop 32 s → 32 ≤ length s → ((k : ℕ) → k < length block → get_or block k 0 < 0x80) → Passes s rest
+passes_block s block rest p q l f =
+    record { shorter = omega (arith, ap length q, length-drop 32 s); same = sym (well_formed_block block rest f) ∙ ap well_formed (rw (p, q) (take-append-drop 32 s)) }
+
+-- ---- the beginning of s, up to rest, is passed
+
+abbrev pub Passed : List ℕ → List ℕ → Type 0
+Passed s rest = (rest ≡ s) ⊎ Passes s rest
+
+pub passed_more : (s r t : List ℕ) → Passed s r → Passes r t → Passed s t
+passed_more s r t (inl e) p = inr (subst (λ u. Passes u t) e p)
+passed_more s r t (inr q) p = inr (passes_then s r t q p)
+
+-- a text from its first byte on
+first_and_rest : (s : List ℕ) → 1 ≤ length s → get_or s 0 0 ∷ take (length s - 1) (drop 1 s) ≡ s
+first_and_rest [] l = absurd (omega arith)
+first_and_rest (x ∷ s) l = ap (λ t. x ∷ t) (rest_of 1 (x ∷ s))
+
+module _ (s rest : List ℕ) (e : well_formed rest ≡ well_formed s) where
+  pub passed_next : (r : List ℕ) → 1 ≤ length rest → Passes (get_or rest 0 0 ∷ take (length rest - 1) (drop 1 rest)) r → well_formed r ≡ well_formed s
+  passed_next r l p = p.same ∙ ap well_formed (first_and_rest rest l) ∙ e
+
+  pub passed_broken : 1 ≤ length rest → well_formed (get_or rest 0 0 ∷ take (length rest - 1) (drop 1 rest)) ≡ false → false ≡ well_formed s
+  passed_broken l f = sym f ∙ ap well_formed (first_and_rest rest l) ∙ e
+
+  pub passed_all : length rest < 1 → true ≡ well_formed s
+  unfolding well_formed meets
+  passed_all h = go rest h e
+    where
+      go : (t : List ℕ) → length t < 1 → well_formed t ≡ well_formed s → true ≡ well_formed s
+      go [] h e = e
+      go (x ∷ t) h e = absurd (omega arith)

@@ -1,176 +1,103 @@
 // UTF-8 of RFC 3629: whether bytes are well-formed text, and where they break.
 #![tactic(auto)]
 
-ghost use Rattle.std.specs.Prelude.{◌≡◌, true, ◌+◌, ◌≤◌, ◌<◌, length, get_or};
+ghost use Rattle.std.specs.Prelude.{◌≡◌, true, false, ◌∷◌, ◌<◌, ◌≤◌, length, slice_index, EachIndex, MatchOption};
 ghost use Rattle.text.specs.Grammar.{◌to◌, inside, tail, well_formed};
 ghost use Rattle.text.specs.Place.{broken_at};
-ghost use Rattle.text.specs.Steps.{second, following, Rest, Passes, Character, Left};
+ghost use Rattle.text.specs.Steps.{following, second, Passes, Left};
 
-// ---- a character of more than one byte
+// ---- the bytes of a character
 
-fn between(y: u8, low: u8, high: u8) -> bool
-    ensures { result ≡ inside (low to high) y }
+// How many bytes follow the first byte of a character.
+fn following(first: u8) -> Option<usize>
+    ensures { result ≡ following first }
 {
-    if y < low {
-        return false;
+    match first {
+        0..=0x7F => Some(0),
+        0xC2..=0xDF => Some(1),
+        0xE0..=0xEF => Some(2),
+        0xF0..=0xF4 => Some(3),
+        _ => None,
     }
-    y <= high
 }
 
 fn is_tail(y: u8) -> bool
     ensures { result ≡ inside tail y }
 {
-    between(y, 0x80, 0xBF)
+    (0x80..=0xBF).contains(&y)
 }
 
 // The byte after x: below these ranges a character would be overlong, above them a surrogate, or beyond U+10FFFF.
 fn is_second(x: u8, y: u8) -> bool
     ensures { result ≡ inside (second x) y }
 {
-    if x == 0xE0 {
-        return between(y, 0xA0, 0xBF);
+    match x {
+        0xE0 => (0xA0..=0xBF).contains(&y),
+        0xED => (0x80..=0x9F).contains(&y),
+        0xF0 => (0x90..=0xBF).contains(&y),
+        0xF4 => (0x80..=0x8F).contains(&y),
+        _ => is_tail(y),
     }
-    if x == 0xED {
-        return between(y, 0x80, 0x9F);
-    }
-    if x == 0xF0 {
-        return between(y, 0x90, 0xBF);
-    }
-    if x == 0xF4 {
-        return between(y, 0x80, 0x8F);
-    }
-    is_tail(y)
-}
-
-fn two(s: &[u8], i: usize, x: u8) -> bool
-    requires { (i < length s.now) × (x < 0xE0) }
-    ensures { Rest s.now i x 1 result }
-{
-    if s.len() - i < 2 {
-        return false;
-    }
-    is_tail(s[i + 1])
-}
-
-fn three(s: &[u8], i: usize, x: u8) -> bool
-    requires { i < length s.now }
-    ensures { Rest s.now i x 2 result }
-{
-    if s.len() - i < 3 {
-        return false;
-    }
-    if !is_second(x, s[i + 1]) {
-        return false;
-    }
-    is_tail(s[i + 2])
-}
-
-fn four(s: &[u8], i: usize, x: u8) -> bool
-    requires { i < length s.now }
-    ensures { Rest s.now i x 3 result }
-{
-    if s.len() - i < 4 {
-        return false;
-    }
-    if !is_second(x, s[i + 1]) {
-        return false;
-    }
-    if !is_tail(s[i + 2]) {
-        return false;
-    }
-    is_tail(s[i + 3])
-}
-
-// How many bytes the character at place i has, or 0 where there is none.
-fn character(s: &[u8], i: usize) -> usize
-    requires { (i < length s.now) × (0x80 ≤ get_or s.now i 0) }
-    ensures { Character s.now i result }
-{
-    let x = s[i];
-    if x < 0xC2 {
-        return 0;
-    }
-    if x < 0xE0 {
-        if two(s, i, x) {
-            return 2;
-        }
-        return 0;
-    }
-    if x < 0xF0 {
-        if three(s, i, x) {
-            return 3;
-        }
-        return 0;
-    }
-    if 0xF4 < x {
-        return 0;
-    }
-    if four(s, i, x) {
-        return 4;
-    }
-    0
 }
 
 // ---- characters of one byte
 
 // The bytes are gathered and tested once, so that many can be taken at a time.
-fn ascii_block(s: &[u8], i: usize) -> bool
-    requires { i + 32 ≤ length s.now }
-    ensures { result ≡ true → Passes s.now i (i + 32) }
+fn is_ascii(block: &[u8]) -> bool
+    ensures { result ≡ true → EachIndex block.now (λ k. slice_index block.now k < 0x80) }
 {
     let mut x = 0u8;
-    let mut j = 0;
-    while j < 32 {
-        x = x | s[i + j];
-        j += 1;
+    for b in block {
+        x |= *b;
     }
     x < 0x80
 }
 
-fn ascii_blocks(s: &[u8], i: usize) -> usize
-    requires { i ≤ length s.now }
-    ensures { Passes s.now i result }
+// What follows the characters of one byte that s begins with.
+fn after_ascii(s: &[u8]) -> &[u8]
+    requires { (0 < length s.now) × (slice_index s.now 0 < 0x80) }
+    ensures { Passes s.now result.now }
 {
-    let mut j = i;
-    while 32 <= s.len() - j {
-        if !ascii_block(s, j) {
-            return j;
+    let mut rest = s;
+    while let Some((block, after)) = rest.split_at_checked(32) {
+        if !is_ascii(block) {
+            break;
         }
-        j += 32;
+        rest = after;
     }
-    j
-}
-
-// The end of the characters of one byte from place i on, where one stands.
-fn ascii_end(s: &[u8], i: usize) -> usize
-    requires { (i < length s.now) × (get_or s.now i 0 < 0x80) }
-    ensures { Passes s.now i result × (i < result) }
-{
-    let mut j = ascii_blocks(s, i);
-    while j < s.len() {
-        if 0x80 <= s[j] {
-            return j;
-        }
-        j += 1;
+    while let [0..=0x7F, after @ ..] = rest {
+        rest = after;
     }
-    j
+    rest
 }
 
 // ---- text
 
+// What follows a character of more than one byte: x is its first, and ahead are those after it.
+fn after_character(x: u8, ahead: &[u8]) -> Option<&[u8]>
+    requires { 0x80 ≤ x }
+    ensures { MatchOption result (well_formed (x ∷ ahead.now) ≡ false) (λ r. Passes (x ∷ ahead.now) r.now) }
+{
+    match (following(x)?, ahead) {
+        (1, [y, rest @ ..]) if is_second(x, *y) => Some(rest),
+        (2, [y, z, rest @ ..]) if is_second(x, *y) && is_tail(*z) => Some(rest),
+        (3, [y, z, w, rest @ ..]) if is_second(x, *y) && is_tail(*z) && is_tail(*w) => Some(rest),
+        _ => None,
+    }
+}
+
 pub fn well_formed(s: &[u8]) -> bool
     ensures { result ≡ well_formed s.now }
 {
-    let mut i = 0;
-    while i < s.len() {
-        if s[i] < 0x80 {
-            i = ascii_end(s, i);
+    let mut rest = s;
+    while let [x, ahead @ ..] = rest {
+        if *x < 0x80 {
+            rest = after_ascii(rest);
         } else {
-            let n = character(s, i);
-            if n == 0 {
-                return false;
+            match after_character(*x, ahead) {
+                Some(after) => rest = after,
+                None => return false,
             }
-            i += n;
         }
     }
     true
@@ -178,62 +105,29 @@ pub fn well_formed(s: &[u8]) -> bool
 
 // ---- the place at which a text breaks
 
-// How many bytes follow the first byte of a character of more than one, or 0 where it begins none.
-fn following(first: u8) -> usize
-    ensures { result ≡ following first }
-{
-    if first < 0xC2 {
-        return 0;
-    }
-    if first < 0xE0 {
-        return 1;
-    }
-    if first < 0xF0 {
-        return 2;
-    }
-    if first < 0xF5 {
-        return 3;
-    }
-    0
-}
-
-// How many bytes of a character are left after y, where n were left after x; 4 where y can't stand there. The
-// range after a tail is a tail's.
-fn left_after(n: usize, x: u8, y: u8) -> usize
-    requires { n < 4 }
+// How many bytes of a character are left after y, where n were left after x. The range after a tail is a tail's.
+fn left_after(n: usize, x: u8, y: u8) -> Option<usize>
     ensures { Left n x y result }
 {
-    if n == 0 {
-        if y < 0x80 {
-            return 0;
-        }
-        let m = following(y);
-        if m == 0 {
-            return 4;
-        }
-        return m;
+    match n {
+        0 => following(y),
+        _ if is_second(x, y) => Some(n - 1),
+        _ => None,
     }
-    if is_second(x, y) {
-        return n - 1;
-    }
-    4
 }
 
 // The place of the first byte at which no well-formed text can go on, or the length.
 pub fn broken_at(s: &[u8]) -> usize
     ensures { result ≡ broken_at s.now }
 {
-    let mut i = 0;
     let mut n = 0;
     let mut x = 0u8;
-    while i < s.len() {
-        let y = s[i];
-        n = left_after(n, x, y);
-        if n == 4 {
-            return i;
+    for (i, y) in s.iter().enumerate() {
+        match left_after(n, x, *y) {
+            Some(m) => n = m,
+            None => return i,
         }
-        x = y;
-        i += 1;
+        x = *y;
     }
-    i
+    s.len()
 }

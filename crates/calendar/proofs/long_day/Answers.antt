@@ -6,8 +6,8 @@ use Rattle.calendar.proofs.long_day.Goals as goal
 pub returns-then-t-lt60 : goal.returns-then-t-lt60
 returns-then-t-lt60 c = search (leap_early, rules)
 
-pub returns-then-is_leap : goal.returns-then-is_leap
-returns-then-is_leap c = search (leap_late, rules)
+pub returns-else-t-lt60 : goal.returns-else-t-lt60
+returns-else-t-lt60 c = search (leap_late, rules)
 
 pub returns-then-t-lt59 : goal.returns-then-t-lt59
 returns-then-t-lt59 c = search (common_early, rules)

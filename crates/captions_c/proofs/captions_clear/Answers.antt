@@ -3,4 +3,4 @@ use Rattle.captions_c.specs.Answer.{plain}
 use Rattle.captions_c.proofs.captions_clear.Goals as goal
 
 pub returns : goal.returns
-returns c = c.sheet_answer.ensures _ ∙ ap plain c.clear-a.ensures
+returns c = c.from.ensures _ ∙ ap plain c.clear-a.ensures

@@ -2,4 +2,4 @@ use mathlib.Core.Path.{◌∙◌}
 use Rattle.captions_c.proofs.captions_present_decrypt_block.Goals as goal
 
 pub returns : goal.returns
-returns c = c.block_answer.ensures _ ∙ c.decrypt_block-a.ensures
+returns c = c.from.ensures _ ∙ c.decrypt_block-a.ensures

@@ -1,4 +1,3 @@
--- `cipher::field_bytes` meets its contract. The loop's invariant: what remains is what there was to do.
 use mathlib.Core.List.{[]}
 use mathlib.Core.Path.{sym, ◌∙◌}
 use Rattle.mcrypton.specs.Bytes.{bytes_of}
@@ -10,7 +9,7 @@ pub loop-i-init : goal.loop-i-init
 loop-i-init c = search (each_none, rules)
 
 pub loop-i-preserved : goal.loop-i-preserved
-loop-i-preserved c = let l = c.loop-i in (each_next [] bytes_of l.i _ _ (search rules) (search rules) c.block_bytes-y.ensures ∙ l.invariant.0, l.invariant.1, search rules, search rules)
+loop-i-preserved c = let l = c.loop-i in (each_next [] bytes_of l.i _ _ (search rules) (search rules) c.block_bytes.ensures ∙ l.invariant.0, search rules)
 
 pub returns : goal.returns
-returns c = let l = c.loop-i in sym (each_all [] bytes_of l.i l.b _ (search rules) (search rules)) ∙ l.invariant.0
+returns c = let l = c.loop-i in sym (each_all [] bytes_of l.i l.y-items _ (search rules) (search rules)) ∙ l.invariant.0

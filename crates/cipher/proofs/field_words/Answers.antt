@@ -1,4 +1,3 @@
--- `cipher::field_words` meets its contract. The loop's invariant: what remains is what there was to do.
 use mathlib.Core.List.{[]}
 use mathlib.Core.Path.{sym, ap, ◌∙◌}
 use native.Mathlib.Omega.{arith}
@@ -16,11 +15,11 @@ pub loop-i-preserved : goal.loop-i-preserved
 loop-i-preserved c =
     let l = c.loop-i in
     let s = c.args.s.now in
-    let y = c.block_words-y.ensures ∙ ap words_of (c.block_at.ensures ∙ sym (blocks_at 24 s l.i (search rules))) in
-    (each_next [] words_of l.i _ (blocks 24 s) (search rules) (omega (arith, length_blocks 24 s, c.loop-i-test.true)) y ∙ l.invariant.0, search rules, search rules, l.invariant.3)
+    let y = c.block_words.ensures ∙ ap words_of (c.block_at.ensures ∙ sym (blocks_at 24 s l.i (search rules))) in
+    (each_next [] words_of l.i _ (blocks 24 s) (search rules) (omega (arith, length_blocks 24 s, c.loop-i-test.true)) y ∙ l.invariant.0, search rules, l.invariant.2)
 
 pub returns : goal.returns
 returns c =
     let l = c.loop-i in
     let s = c.args.s.now in
-    sym (each_all [] words_of l.i l.a (blocks 24 s) (search rules) (omega (arith, length_blocks 24 s, c.loop-i-test.false))) ∙ l.invariant.0
+    sym (each_all [] words_of l.i l.x-items (blocks 24 s) (search rules) (omega (arith, length_blocks 24 s, c.loop-i-test.false))) ∙ l.invariant.0

@@ -1,15 +1,16 @@
-use borrow.Author.Tests.{eq-eqb, ne_eqb}
+use native.Mathlib.Omega.{arith}
+use Rattle.std.proofs.lemmas.Bool.Decides.{nat_tests}
 use Rattle.cipher.specs.Key.{key_bytes}
 use Rattle.cipher.proofs.key_bytes.Goals as goal
 
-pub returns-then-t-eq21 : goal.returns-then-t-eq21
+pub returns-in-21 : goal.returns-in-21
 unfolding key_bytes
-returns-then-t-eq21 c = simp (eq-eqb _ _ c.if-t-eq21.true)
+returns-in-21 c = grind (arith, nat_tests)
 
-pub returns-then-t-eq24 : goal.returns-then-t-eq24
+pub returns-in-24 : goal.returns-in-24
 unfolding key_bytes
-returns-then-t-eq24 c = simp (ne_eqb _ _ c.if-t-eq21.false, eq-eqb _ _ c.if-t-eq24.true)
+returns-in-24 c = grind (arith, nat_tests)
 
-pub returns : goal.returns
+pub returns-in_default : goal.returns-in_default
 unfolding key_bytes
-returns c = simp (ne_eqb _ _ c.if-t-eq21.false, ne_eqb _ _ c.if-t-eq24.false)
+returns-in_default c = grind (arith, nat_tests)

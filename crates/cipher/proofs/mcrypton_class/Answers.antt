@@ -1,15 +1,12 @@
-use borrow.Author.Tests.{eq-eqb, ne_eqb}
+use native.Mathlib.Omega.{arith}
+use Rattle.std.proofs.lemmas.Bool.Decides.{nat_tests}
 use Rattle.cipher.specs.Key.{mcrypton_class}
 use Rattle.cipher.proofs.mcrypton_class.Goals as goal
 
-pub returns-then-t-eq4 : goal.returns-then-t-eq4
+pub returns-in-4 : goal.returns-in-4
 unfolding mcrypton_class
-returns-then-t-eq4 c = simp (eq-eqb _ _ c.if-t-eq4.true)
+returns-in-4 c = grind (arith, nat_tests)
 
-pub returns-then-t-eq6 : goal.returns-then-t-eq6
+pub returns-in_default : goal.returns-in_default
 unfolding mcrypton_class
-returns-then-t-eq6 c = simp (ne_eqb _ _ c.if-t-eq4.false, eq-eqb _ _ c.if-t-eq6.true)
-
-pub returns : goal.returns
-unfolding mcrypton_class
-returns c = simp (ne_eqb _ _ c.if-t-eq4.false, ne_eqb _ _ c.if-t-eq6.false)
+returns-in_default c = grind (arith, nat_tests)

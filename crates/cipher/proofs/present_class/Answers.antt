@@ -1,11 +1,12 @@
-use borrow.Author.Tests.{eq-eqb, ne_eqb}
+use native.Mathlib.Omega.{arith}
+use Rattle.std.proofs.lemmas.Bool.Decides.{nat_tests}
 use Rattle.cipher.specs.Key.{present_class}
 use Rattle.cipher.proofs.present_class.Goals as goal
 
-pub returns-then-t-eq21 : goal.returns-then-t-eq21
+pub returns-in-21 : goal.returns-in-21
 unfolding present_class
-returns-then-t-eq21 c = simp (eq-eqb _ _ c.if-t-eq21.true)
+returns-in-21 c = grind (arith, nat_tests)
 
-pub returns : goal.returns
+pub returns-in_default : goal.returns-in_default
 unfolding present_class
-returns c = simp (ne_eqb _ _ c.if-t-eq21.false)
+returns-in_default c = grind (arith, nat_tests)

@@ -16,8 +16,8 @@ returns-then-not-class_rule c = search (fault_class, not-true, not-false, rules)
 pub returns-then-not-edition_known : goal.returns-then-not-edition_known
 returns-then-not-edition_known c = search (fault_edition, not-true, not-false, rules)
 
-pub returns-then-z-lt16 : goal.returns-then-z-lt16
-returns-then-z-lt16 c = search (fault_zero, not-false, rules)
+pub returns-in-Some : goal.returns-in-Some
+returns-in-Some c = search (fault_zero, not-false, rules)
 
 pub returns : goal.returns
 returns c = search (fault_rest, not-false, rules)

@@ -4,7 +4,7 @@ use Rattle.faults.proofs.Places.{search_begun, search_out, search_here, search_n
 use Rattle.faults.proofs.first_set.Goals as goal
 
 pub loop-i-init : goal.loop-i-init
-loop-i-init c = (search search_begun, search rules)
+loop-i-init c = search search_begun
 
 pub returns-then-s-i : goal.returns-then-s-i
 returns-then-s-i c = search (search_out, rules)

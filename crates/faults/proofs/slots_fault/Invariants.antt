@@ -1,11 +1,7 @@
 -- `faults::slots_fault` meets its contract. The loop's invariant: the first fault from slot i on is that from slot 0 on.
 use mathlib.Core.Path.{◌≡◌}
-use Prim.Native.Nat.{◌-◌, ◌≤◌}
 use Rattle.faults.specs.Inner.{slots_fault}
 use Rattle.faults.proofs.slots_fault.Given as goal
 
 abbrev pub invariant-loop-i : goal.invariant-loop-i
-invariant-loop-i l = (slots_fault l.s l.i ≡ slots_fault l.s 0) × (l.i ≤ l.h.slots)
-
-abbrev pub decreases-loop-i : goal.decreases-loop-i
-decreases-loop-i l = l.h.slots - l.i
+invariant-loop-i l = slots_fault l.s l.i ≡ slots_fault l.s 0

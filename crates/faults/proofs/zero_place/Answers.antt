@@ -6,8 +6,8 @@ use Rattle.faults.proofs.zero_place.Goals as goal
 pub returns-then-byte-ne2 : goal.returns-then-byte-ne2
 returns-then-byte-ne2 c = search place_one
 
-pub returns-then-s-z : goal.returns-then-s-z
-returns-then-s-z c = search (place_out, rules)
+pub returns-then-z-min : goal.returns-then-z-min
+returns-then-z-min c = search (place_in, rules)
 
 pub returns : goal.returns
-returns c = search (place_in, rules)
+returns c = search (place_out, rules)

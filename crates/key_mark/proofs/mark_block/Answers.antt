@@ -3,4 +3,4 @@ use Rattle.key_mark.proofs.Mark.{mark_block_lem}
 use Rattle.key_mark.proofs.mark_block.Goals as goal
 
 pub returns : goal.returns
-returns c = mark_block_lem _ _ _
+returns c = search mark_block_lem

@@ -10,14 +10,14 @@ overflow_add-a c = unfold sheet_size mark_at in search rules
 pub slice_bounds-all_zero-end : goal.slice_bounds-all_zero-end
 slice_bounds-all_zero-end c = unfold sheet_size mark_at in search rules
 
-pub returns-then-not-all_zero : goal.returns-then-not-all_zero
-returns-then-not-all_zero c = search (blank_no)
-
 pub overflow_add-b : goal.overflow_add-b
 overflow_add-b c = unfold sheet_size field_at in search rules
 
-pub slice_bounds-all_zero-end-2 : goal.slice_bounds-all_zero-end-2
-slice_bounds-all_zero-end-2 c = unfold sheet_size field_at in search rules
+pub slice_bounds-all_zero-end-then-all_zero : goal.slice_bounds-all_zero-end-then-all_zero
+slice_bounds-all_zero-end-then-all_zero c = unfold sheet_size field_at in search rules
 
-pub returns : goal.returns
-returns c = search (blank_field)
+pub returns-then-all_zero : goal.returns-then-all_zero
+returns-then-all_zero c = search (blank_field)
+
+pub returns-else-all_zero : goal.returns-else-all_zero
+returns-else-all_zero c = rw c.if-all_zero.false (search (blank_no))

@@ -6,5 +6,5 @@ use Rattle.layout.proofs.class_rule.Goals as goal
 pub returns-then-byte-eq3 : goal.returns-then-byte-eq3
 returns-then-byte-eq3 c = search (classes_three, rules)
 
-pub returns : goal.returns
-returns c = search (classes_other, rules)
+pub returns-else-byte-eq3 : goal.returns-else-byte-eq3
+returns-else-byte-eq3 c = search (classes_other, rules)

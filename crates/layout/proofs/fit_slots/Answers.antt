@@ -1,21 +1,14 @@
--- `layout::fit_slots` meets its contract. The loop's invariant: the slots below i are fit.
+-- `layout::fit_slots` meets its contract.
+use mathlib.Core.Path.{refl, ap, ◌∙◌}
+use Prim.Native.Nat.{ℕ}
+use native.Mathlib.Nat.{sub-zero}
 use borrow.Author.Rules.{rules}
-use borrow.Author.Tests.{not-true, not-false}
-use Rattle.octets.proofs.Compare.{all_below_none}
-use Rattle.layout.proofs.Slots.{slot_of, slots_stop, slots_next, slots_end}
+use Rattle.std.proofs.lemmas.Iterator.{YieldsList-from_range}
+use Rattle.std.proofs.lemmas.Iterator.Search.{all_from_yields_List}
+use Rattle.octets.specs.Bytes.{all_below}
+use Rattle.layout.specs.Layout.{edition_of, fit_slot}
+use Rattle.layout.proofs.Slots.{range_all, sheet_slots}
 use Rattle.layout.proofs.fit_slots.Goals as goal
 
-pub loop-i-init : goal.loop-i-init
-loop-i-init c = search (all_below_none, rules)
-
-pub fit_slot-requires : goal.fit_slot-requires
-fit_slot-requires c = search (slot_of, rules)
-
-pub returns-then-not-fit_slot : goal.returns-then-not-fit_slot
-returns-then-not-fit_slot c = search (slots_stop, not-true, rules)
-
-pub loop-i-preserved : goal.loop-i-preserved
-loop-i-preserved c = search (slots_next, not-false, rules)
-
 pub returns : goal.returns
-returns c = search (slots_end, rules)
+returns c = all_from_yields_List (fit_slot (edition_of c.args.s.now) c.args.s.now) _ _ _ c.all.ensures.ran (YieldsList-from_range 0 c.args.h.slots c.args.h.slots refl (sub-zero _)) (λ x b q k. search rules) ∙ range_all _ c.args.h.slots ∙ ap (λ (n : ℕ). all_below n (fit_slot (edition_of c.args.s.now) c.args.s.now)) (sheet_slots c.args.s.now c.args.h c.requires.sheet_of)

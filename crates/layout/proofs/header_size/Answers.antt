@@ -6,5 +6,5 @@ use Rattle.layout.proofs.header_size.Goals as goal
 pub returns-then-has_serial : goal.returns-then-has_serial
 returns-then-has_serial c = search (size_two, rules)
 
-pub returns : goal.returns
-returns c = search (size_one, rules)
+pub returns-else-has_serial : goal.returns-else-has_serial
+returns-else-has_serial c = search (size_one, rules)

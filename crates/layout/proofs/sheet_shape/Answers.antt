@@ -6,8 +6,8 @@ use Rattle.layout.proofs.sheet_shape.Goals as goal
 pub header_size-requires : goal.header_size-requires
 header_size-requires c = search header_long
 
-pub number2-requires : goal.number2-requires
-number2-requires c = search slots_bytes
+pub number-requires : goal.number-requires
+number-requires c = search (slots_bytes, rules)
 
 pub byte-requires : goal.byte-requires
 byte-requires c = search class_byte

@@ -6,11 +6,11 @@ use Rattle.layout.proofs.start_tail.Goals as goal
 pub byte-requires : goal.byte-requires
 byte-requires c = search header_byte
 
-pub number2-requires : goal.number2-requires
-number2-requires c = search (serial_inside, rules)
+pub number-requires : goal.number-requires
+number-requires c = search (serial_inside, rules)
 
 pub returns-then-has_serial : goal.returns-then-has_serial
 returns-then-has_serial c = search tail_two
 
-pub returns : goal.returns
-returns c = search tail_one
+pub returns-else-has_serial : goal.returns-else-has_serial
+returns-else-has_serial c = search tail_one

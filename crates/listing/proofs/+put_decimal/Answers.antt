@@ -2,7 +2,7 @@
 use native.Mathlib.Omega.{arith}
 use borrow.Author.Rules.{rules}
 use Rattle.listing.proofs.Decimal.{length_decimal_pos, length_decimal_more}
-use Rattle.listing.proofs.Text.{append_digit, append_digits}
+use Rattle.listing.proofs.Appending.{append_digit, append_digits}
 use Rattle.listing.proofs.+put_decimal.Goals as goal
 
 pub bounds-text-at : goal.bounds-text-at

@@ -3,8 +3,8 @@ use borrow.Author.Rules.{rules}
 use Rattle.listing.proofs.Whole.{listable_long, listable_fit}
 use Rattle.listing.proofs.can_list.Goals as goal
 
-pub returns-then-sheet-gt-LARGEST : goal.returns-then-sheet-gt-LARGEST
-returns-then-sheet-gt-LARGEST c = search (listable_long, rules)
+pub returns-then-sheet-le-LARGEST : goal.returns-then-sheet-le-LARGEST
+returns-then-sheet-le-LARGEST c = search (listable_fit, rules)
 
-pub returns : goal.returns
-returns c = search (listable_fit, rules)
+pub returns-else-sheet-le-LARGEST : goal.returns-else-sheet-le-LARGEST
+returns-else-sheet-le-LARGEST c = search (listable_long, rules)

@@ -1,7 +1,6 @@
 -- `listing::put_head` meets its contract.
-use borrow.Author.Rules.{rules}
-use Rattle.listing.proofs.Lines.{append_head}
+use Rattle.listing.proofs.Lines.{head_put}
 use Rattle.listing.proofs.put_head.Goals as goal
 
-pub returns : goal.returns
-returns c = search (append_head, rules)
+pub returns-clause-text : goal.returns-clause-text
+returns-clause-text c = rw (c.field-3.ensures.text, c.field-2.ensures.text, c.field.ensures.text, c.requires.start) (head_put _ _ _)

@@ -1,6 +1,6 @@
-use Rattle.mcrypton.proofs.WordsOf.{bytes_four}
+use Rattle.mcrypton.proofs.WordsOf.{bytes_pairs}
 use borrow.Author.Rules.{rules}
 use Rattle.mcrypton.proofs.block_bytes.Goals as goal
 
 pub returns : goal.returns
-returns c = simp (c.high.ensures, c.low.ensures, c.high-2.ensures, c.low-2.ensures, c.high-3.ensures, c.low-3.ensures, c.high-4.ensures, c.low-4.ensures) (bytes_four _ (search rules))
+returns c = bytes_pairs c.args.a (search rules) c.word_bytes-w.ensures c.word_bytes-x.ensures c.word_bytes-y.ensures c.word_bytes-z.ensures

@@ -1,47 +1,10 @@
--- `mcrypton::decrypt_all` meets its contract. The loop's invariant: what remains of the arrays after r rounds is what remained at its start.
-use mathlib.Core.Path.{◌≡◌, refl, ap, ◌∙◌}
-use Prim.Native.Nat.{ℕ, ◌+◌, ◌<◌}
-use native.Mathlib.Omega.{arith}
-use lib.ListN.{length, length-map}
-use Rattle.rounds.specs.Array.{φ}
-use Rattle.rounds.specs.declared.Direction.TheVariants.{Decrypt}
-use Rattle.schedule.specs.Schedule.{backward, round_key}
-use Rattle.schedule.specs.declared.Register.{Register}
-use Rattle.mcrypton.specs.Registers.{decrypt_from}
-use Rattle.mcrypton.proofs.Each.{each_round, each_ended}
-use borrow.Author.Rules.{rules}
+use mathlib.Core.Path.{◌∙◌}
+use Rattle.octets.proofs.Each.{map_same}
+use Rattle.mcrypton.proofs.Remaining.{from_last, walked_decrypt}
 use Rattle.mcrypton.proofs.decrypt_all.Goals as goal
 
-next : (u v : Register) (r : ℕ) → u ≡ backward v → v.round + r ≡ 12 → r < 12 → u.round + (r + 1) ≡ 12
-unfolding backward
-next u v r e i l = let q = ap (λ (x : Register). x.round) e in omega (arith, q, i, l)
-
-pub round_key-requires : goal.round_key-requires
-round_key-requires c = (omega (arith, c.requires), c.sbox_tables-s.ensures)
-
-pub loop-r-init : goal.loop-r-init
-loop-r-init c =
-    (c.sbox_tables-s.ensures, c.word_tables-t.ensures, search rules, omega (arith, c.requires), refl)
-
-pub backward-next-requires : goal.backward-next-requires
-backward-next-requires c = omega (arith, c.loop-r.invariant.3, c.loop-r-test.true)
-
-pub round_key-requires-in-loop-r : goal.round_key-requires-in-loop-r
-round_key-requires-in-loop-r c = (omega (arith, next _ _ c.loop-r.r c.backward-next.ensures c.loop-r.invariant.3 c.loop-r-test.true), c.loop-r.invariant.0)
-
-pub round_all-requires : goal.round_all-requires
-round_all-requires c = c.loop-r.invariant.1
-
-pub loop-r-preserved : goal.loop-r-preserved
-loop-r-preserved c =
-    let l = c.loop-r in
-    (l.invariant.0, l.invariant.1, search rules, next _ _ c.loop-r.r c.backward-next.ensures c.loop-r.invariant.3 c.loop-r-test.true, l.invariant.4 ∙ each_round Decrypt 0 backward (λ u. φ (round_key u)) l.r _ l.a c.loop-r-test.true c.backward-next.ensures (c.phi-in-loop-r.ensures ∙ ap φ c.round_key-in-loop-r.ensures) c.round_all.ensures)
+pub walk_all-requires : goal.walk_all-requires
+walk_all-requires c = from_last _ c.requires
 
 pub returns : goal.returns
-unfolding decrypt_from
-returns c =
-    let b = c.args.a.now in
-    each_ended Decrypt 0 backward (λ u. φ (round_key u)) c.loop-r.r _ _ b c.loop-r.a c.loop-r-test.false c.loop-r.invariant.4 (c.phi.ensures ∙ ap φ c.round_key.ensures) c.sigma_all.ensures c.phi_all.ensures
-
-pub shape_of-a : goal.shape_of-a
-shape_of-a c = let a = c.args in ap length (returns c) ∙ length-map a.a.now (decrypt_from 0 a.u)
+returns c = c.walk_all.ensures ∙ map_same _ _ (walked_decrypt 0 c.args.u) c.args.a.now

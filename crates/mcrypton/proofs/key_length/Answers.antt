@@ -1,15 +1,9 @@
-use borrow.Author.Tests.{eq-eqb, ne_eqb}
-use Rattle.mcrypton.specs.Bytes.{key_length}
+use Rattle.mcrypton.proofs.KeyLengths.{is_key, no_key}
+use borrow.Author.Rules.{rules}
 use Rattle.mcrypton.proofs.key_length.Goals as goal
 
-pub returns-then-n-eq8 : goal.returns-then-n-eq8
-unfolding key_length
-returns-then-n-eq8 c = simp (eq-eqb _ _ c.if-n-eq8.true)
+pub returns-in-8 : goal.returns-in-8
+returns-in-8 c = is_key _ c.in-8.is
 
-pub returns-then-n-eq12 : goal.returns-then-n-eq12
-unfolding key_length
-returns-then-n-eq12 c = simp (ne_eqb _ _ c.if-n-eq8.false, eq-eqb _ _ c.if-n-eq12.true)
-
-pub returns : goal.returns
-unfolding key_length
-returns c = simp (ne_eqb _ _ c.if-n-eq8.false, ne_eqb _ _ c.if-n-eq12.false)
+pub returns-in_default : goal.returns-in_default
+returns-in_default c = search (no_key, rules)

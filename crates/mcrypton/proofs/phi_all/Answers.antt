@@ -6,11 +6,11 @@ use Rattle.octets.proofs.Each.{each_none, each_here, each_all}
 use borrow.Author.Rules.{rules}
 use Rattle.mcrypton.proofs.phi_all.Goals as goal
 
-pub loop-i-init : goal.loop-i-init
-loop-i-init c = search (each_none, rules)
+pub loop-x-init : goal.loop-x-init
+loop-x-init c = search (each_none, rules)
 
-pub loop-i-preserved : goal.loop-i-preserved
-loop-i-preserved c = let l = c.loop-i in (each_here [] φ l.i _ (search rules) c.phi-y.ensures ∙ l.invariant.0, search rules, search rules)
+pub loop-x-preserved : goal.loop-x-preserved
+loop-x-preserved c = let l = c.loop-x in each_here [] φ l.x-index _ (search rules) c.phi.ensures ∙ l.invariant
 
 pub returns : goal.returns
-returns c = let l = c.loop-i in sym (each_all [] φ l.i l.a _ (search rules) (search rules)) ∙ l.invariant.0
+returns c = let l = c.loop-x in sym (each_all [] φ l.x-index l.a _ (search rules) (search rules)) ∙ l.invariant

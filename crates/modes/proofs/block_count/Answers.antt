@@ -6,5 +6,5 @@ use Rattle.modes.proofs.block_count.Goals as goal
 pub returns-then-len-eq0 : goal.returns-then-len-eq0
 returns-then-len-eq0 c = search (count_none, rules)
 
-pub returns : goal.returns
-returns c = search (count_more, rules)
+pub returns-else-len-eq0 : goal.returns-else-len-eq0
+returns-else-len-eq0 c = search (count_more, rules)

@@ -8,7 +8,7 @@ loop-j-init c = search (chained_none, rules)
 
 pub loop-j-preserved : goal.loop-j-preserved
 loop-j-preserved c =
-    (encrypt_more _ _ _ _ _ _ _ _ _ _ _ c.loop-j.invariant.0 (search rules) c.block_at.ensures c.xor_block.ensures c.encrypt-next.ensures (search rules) c.copy_part.ensures (search rules), search rules, search rules)
+    (encrypt_more _ _ _ _ _ _ _ _ _ _ _ c.loop-j.invariant.0 (search rules) c.block_at.ensures c.xor_block.ensures c.encrypt-c.ensures (search rules) c.copy_part.ensures (search rules), search rules)
 
 pub returns : goal.returns
 returns c = search (encrypt_end, rules)

@@ -1,5 +1,5 @@
 -- `modes::cbc_encrypt` meets its contract. The loop's invariant: j blocks are encrypted.
-use Prim.Native.Nat.{◌*◌, ◌-◌, ◌≤◌}
+use Prim.Native.Nat.{◌*◌}
 use mathlib.Core.Path.{◌≡◌}
 use lib.ListN.{length}
 use Rattle.cipher.specs.Key.{encrypted}
@@ -8,7 +8,4 @@ use Rattle.modes.proofs.Chaining.{ChainedTo}
 use Rattle.modes.proofs.cbc_encrypt.Given as goal
 
 abbrev pub invariant-loop-j : goal.invariant-loop-j
-invariant-loop-j l = ChainedTo (cbc_encrypt (encrypted l.k)) l.n l.initial.c l.p l.c l.j l.out × (length l.out ≡ 8 * l.n) × (l.j ≤ l.n)
-
-abbrev pub decreases-loop-j : goal.decreases-loop-j
-decreases-loop-j l = l.n - l.j
+invariant-loop-j l = ChainedTo (cbc_encrypt (encrypted l.k)) l.n l.initial.c l.p l.c l.j l.out × (length l.out ≡ 8 * l.n)

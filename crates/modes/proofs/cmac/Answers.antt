@@ -11,8 +11,8 @@ returns-then-not-key_length c = search (refused_key)
 pub returns-then-out-ne8 : goal.returns-then-out-ne8
 returns-then-out-ne8 c = search (refused_span)
 
-pub mac-c-requires : goal.mac-c-requires
-mac-c-requires c = search (no_block_first, rules)
+pub mac-requires : goal.mac-requires
+mac-requires c = search (no_block_first, rules)
 
 pub returns : goal.returns
 returns c = search (accepted, not-false, rules)

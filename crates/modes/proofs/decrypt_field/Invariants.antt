@@ -1,7 +1,7 @@
 -- `modes::decrypt_field` meets its contract. The loop's invariant: i blocks are decrypted, whatever cipher made d.
 use mathlib.Core.Path.{◌≡◌}
 use mathlib.Core.List.{List, map}
-use Prim.Native.Nat.{ℕ, ◌≤◌, ◌-◌}
+use Prim.Native.Nat.{ℕ, ◌≤◌}
 use lib.ListN.{length}
 use Rattle.cipher.specs.Field.{blocks}
 use Rattle.modes.specs.Cbc.{cbc_decrypt}
@@ -10,7 +10,4 @@ use Rattle.modes.proofs.decrypt_field.Given as goal
 
 abbrev pub invariant-loop-i : goal.invariant-loop-i
 invariant-loop-i l =
-    ((D : List ℕ → List ℕ) → l.d ≡ map D (blocks 24 l.s) → ChainedTo (cbc_decrypt D) 24 l.initial.before l.s l.before l.i l.out) × (192 ≤ length l.s) × (length l.out ≡ 192) × (l.i ≤ 24)
-
-abbrev pub decreases-loop-i : goal.decreases-loop-i
-decreases-loop-i l = 24 - l.i
+    ((D : List ℕ → List ℕ) → l.x-items ≡ map D (blocks 24 l.s) → ChainedTo (cbc_decrypt D) 24 l.initial.before l.s l.before l.i l.out) × (192 ≤ length l.s) × (length l.out ≡ 192)

@@ -6,5 +6,5 @@ use Rattle.modes.proofs.double_block.Goals as goal
 pub returns-then-b-lt128 : goal.returns-then-b-lt128
 returns-then-b-lt128 c = search (double_low, rules)
 
-pub returns : goal.returns
-returns c = search (double_high, rules)
+pub returns-else-b-lt128 : goal.returns-else-b-lt128
+returns-else-b-lt128 c = search (double_high, rules)

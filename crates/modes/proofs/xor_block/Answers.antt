@@ -1,7 +1,9 @@
--- `modes::xor_block` meets its contract.
+use native.Mathlib.Omega.{arith}
 use borrow.Author.Rules.{rules}
 use Rattle.modes.proofs.Xor.{xor_eight}
 use Rattle.modes.proofs.xor_block.Goals as goal
 
 pub returns : goal.returns
-returns c = search (xor_eight, rules)
+returns c =
+    let l = c.loop-i in
+    xor_eight c.args.x c.args.y l.z (search rules) (search rules) l.invariant.0 (λ i h. l.invariant.1 i (omega arith))

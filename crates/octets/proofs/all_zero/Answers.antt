@@ -1,10 +1,10 @@
--- `octets::all_zero` meets its contract. The loop's invariant: x is zero and the bytes still to come are zero exactly where all bytes are.
+-- `octets::all_zero` meets its contract.
 use borrow.Author.Rules.{rules}
 use Rattle.octets.proofs.Zeros.{all_zero_next, all_zero_end}
 use Rattle.octets.proofs.all_zero.Goals as goal
 
-pub loop-i-preserved : goal.loop-i-preserved
-loop-i-preserved c = search (all_zero_next, rules)
+pub loop-b-preserved : goal.loop-b-preserved
+loop-b-preserved c = search (all_zero_next, rules)
 
 pub returns : goal.returns
 returns c = search (all_zero_end, rules)

@@ -9,7 +9,7 @@ loop-i-init c = search (joined_none, rules)
 pub loop-i-preserved : goal.loop-i-preserved
 loop-i-preserved c =
     let l = c.loop-i in
-    (joined_more _ l.i l.s _ _ l.invariant.0 (search rules) (search rules) c.copy_part.ensures (search rules), search rules, search rules, search rules, search rules)
+    (joined_more _ l.i l.s _ _ l.invariant.0 (search rules) (search rules) c.copy_part.ensures (search rules), search rules, search rules, search rules)
 
 pub returns : goal.returns
 returns c = search (joined_all, rules)

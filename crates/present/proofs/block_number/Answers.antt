@@ -1,8 +1,6 @@
-use mathlib.Core.Path.{ap, ◌∙◌}
-use Rattle.octets.specs.Bytes.{number}
-use Rattle.octets.proofs.Parts.{part_all}
 use borrow.Author.Rules.{rules}
+use Rattle.present.proofs.EightBytes.{eight_number}
 use Rattle.present.proofs.block_number.Goals as goal
 
 pub returns : goal.returns
-returns c = c.number8.ensures ∙ ap number (part_all _ 8 (search rules))
+returns c = eight_number c.args.b _ (search rules) (search rules) (search rules) c.from_be_bytes.ensures

@@ -1,28 +1,21 @@
-use mathlib.Core.Path.{sym, ◌∙◌}
-use Rattle.octets.proofs.BlockCalls.{wrong_key_lem, wrong_block, wrong_output, accepted}
+use mathlib.Core.Path.{refl, sym}
+use Rattle.std.proofs.lemmas.Result.{err_from_is_err_and}
+use Rattle.octets.proofs.BlockCalls.{accepted}
 use Rattle.present.specs.Calls.{decrypting}
 use Rattle.present.proofs.Held.{at_most_sixteen, block_decrypts}
 use Rattle.present.proofs.decrypt_block.Goals as goal
 
-pub returns-then-not-key_length : goal.returns-then-not-key_length
+pub returns-in_err-c : goal.returns-in_err-c
 unfolding decrypting
-returns-then-not-key_length c = search wrong_key_lem
-
-pub returns-then-block-ne8 : goal.returns-then-block-ne8
-unfolding decrypting
-returns-then-block-ne8 c = search wrong_block
-
-pub returns-then-out-ne8 : goal.returns-then-out-ne8
-unfolding decrypting
-returns-then-out-ne8 c = search wrong_output
+returns-in_err-c c = let p = err_from_is_err_and c.from_residual.result c.from_residual.ensures.1 in rw (p.1, p.2) (c.in_err-c.ensures _)
 
 pub key_words-requires : goal.key_words-requires
-key_words-requires c = at_most_sixteen _ (sym c.key_length.ensures ∙ c.if-not-key_length.false)
+key_words-requires c = at_most_sixteen _ c.in_ok-c.ensures.0
 
 pub returns : goal.returns
 unfolding decrypting
 returns c =
     let s = c.args in
-    let h = c.if-not-key_length.false in
-    accepted _ s.key.now s.block.now s.out.now _ _ c.key_length.ensures h c.if-block-ne8.false c.if-out-ne8.false c.put_block.ensures
-    (block_decrypts s.key.now s.block.now c.key_words.ensures (sym c.key_length.ensures ∙ h) c.if-block-ne8.false c.block_at-c.ensures c.decrypt_words.ensures)
+    let t = c.in_ok-c.ensures in
+    accepted _ s.key.now s.block.now s.out.now _ _ (sym t.0) refl t.2 t.3 c.put_block.ensures
+    (block_decrypts s.key.now s.block.now c.key_words.ensures t.0 t.1 c.decrypt_words.ensures)

@@ -8,5 +8,5 @@ use Rattle.present.proofs.decrypt_words.Goals as goal
 pub returns : goal.returns
 unfolding decrypt_words
 returns c =
-    c.bytes8.ensures
-    ∙ ap (be 8) (c.decrypt_from.ensures ∙ ap₂ (λ u b. decrypt (keys_from u) b) c.key_register.ensures.0 c.block_number.ensures)
+    c.block_bytes.ensures
+    ∙ ap (be 8) (c.decrypt_from.ensures ∙ ap₂ (λ u b. decrypt (keys_from u) b) c.key_register.ensures c.block_number.ensures)

@@ -1,25 +1,23 @@
--- `present::encrypt_from` meets its contract. At the loop's head v holds the register after r updates, and s is the state after r rounds.
-use mathlib.Core.Path.{refl}
+-- At the loop's head v holds the register after r - 1 updates, and s is the state after r - 1 rounds.
+use mathlib.Core.Path.{◌≡◌, refl}
+use Prim.Native.Nat.{ℕ, ◌+◌, ◌-◌}
+use native.Mathlib.Omega.{arith}
 use Rattle.present.specs.Present.{after}
-use Rattle.present_schedule.proofs.Steps.{begun, one_more, fits_at}
+use Rattle.present_schedule.proofs.Steps.{begun, one_more}
 use Rattle.present.proofs.Loop.{encrypt_more, encrypt_ended}
-use borrow.Author.Rules.{rules}
 use Rattle.present.proofs.encrypt_from.Goals as goal
 
 pub loop-r-init : goal.loop-r-init
 unfolding after
-loop-r-init c = (c.spread_box-t.ensures, search rules, begun _ c.requires, refl)
-
-pub update-next-requires : goal.update-next-requires
-update-next-requires c = let l = c.loop-r in fits_at l.r l.invariant.2
-
-pub both_layers-s-requires : goal.both_layers-s-requires
-both_layers-s-requires c = c.loop-r.invariant.0
+loop-r-init c = (begun _, refl)
 
 pub loop-r-preserved : goal.loop-r-preserved
 loop-r-preserved c =
     let l = c.loop-r in
-    (l.invariant.0, search rules, one_more l.r l.invariant.2 c.update-next.ensures, encrypt_more _ l.r l.invariant.2 l.invariant.3 c.both_layers-s.ensures)
+    let r : ℕ = l.r - 1 in
+    let q : l.r ≡ r + 1 = omega arith in
+    let p : l.r + 1 - 1 ≡ r + 1 = omega arith in
+    rw p (one_more r l.invariant.0 (rw q at c.update-v.ensures), encrypt_more _ r l.invariant.0 c.round_key.ensures l.invariant.1 c.both_layers-s.ensures)
 
 pub returns : goal.returns
-returns c = let l = c.loop-r in encrypt_ended _ l.r (search rules) (search rules) l.invariant.2 l.invariant.3
+returns c = let l = c.loop-r in encrypt_ended _ (l.r - 1) (omega arith) l.invariant.0 c.round_key-2.ensures l.invariant.1

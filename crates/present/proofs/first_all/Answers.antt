@@ -1,4 +1,3 @@
--- `present::first_all` meets its contract. The loop's invariant: what remains is what there was to do.
 use mathlib.Core.Path.{sym, ap, ◌∙◌}
 use mathlib.Core.List.{[]}
 use Prim.Native.Nat.{ℕ}
@@ -17,7 +16,7 @@ loop-i-preserved c =
     let l = c.loop-i in
     let k = c.args.k in
     let y = ap (λ (x : ℕ). bit_xor x k) (c.inverse_p_layer.ensures ∙ ap inverse_pLayer c.block_number.ensures) in
-    (l.invariant.0, each_next [] (begun k) l.i _ _ (search rules) (search rules) y ∙ l.invariant.1, search rules, l.invariant.3, search rules)
+    (each_next [] (begun k) l.i _ _ (search rules) (search rules) y ∙ l.invariant.0, search rules)
 
 pub returns : goal.returns
-returns c = let l = c.loop-i in sym (each_all [] (begun c.args.k) l.i l.a _ (search rules) (search rules)) ∙ l.invariant.1
+returns c = let l = c.loop-i in sym (each_all [] (begun c.args.k) l.i l.a _ (search rules) (search rules)) ∙ l.invariant.0

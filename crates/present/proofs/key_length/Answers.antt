@@ -1,11 +1,12 @@
-use borrow.Author.Tests.{eq-eqb, ne_eqb}
+use native.Mathlib.Omega.{arith}
+use Rattle.std.proofs.lemmas.Bool.Decides.{nat_tests}
 use Rattle.present.specs.Bytes.{key_length}
 use Rattle.present.proofs.key_length.Goals as goal
 
-pub returns-then-n-eq10 : goal.returns-then-n-eq10
+pub returns-in-10 : goal.returns-in-10
 unfolding key_length
-returns-then-n-eq10 c = simp (eq-eqb _ _ c.if-n-eq10.true)
+returns-in-10 c = grind (arith, nat_tests)
 
-pub returns : goal.returns
+pub returns-in_default : goal.returns-in_default
 unfolding key_length
-returns c = simp (ne_eqb _ _ c.if-n-eq10.false)
+returns-in_default c = grind (arith, nat_tests)

@@ -1,9 +1,10 @@
-use Rattle.present.proofs.Held.{register_wide, register_narrow}
-use borrow.Author.Rules.{rules}
+use Rattle.present.specs.Registers.{register_of}
 use Rattle.present.proofs.key_register.Goals as goal
 
 pub returns-then-wide : goal.returns-then-wide
-returns-then-wide c = let a = c.args in register_wide a.w a.wide c.if-wide.true c.four_words-high.ensures c.four_words-low.ensures (search rules)
+unfolding register_of
+returns-then-wide c = rw (c.of_128.ensures, c.four_words-high.ensures, c.four_words.ensures, c.if-wide.true)
 
-pub returns : goal.returns
-returns c = let a = c.args in register_narrow a.w a.wide c.if-wide.false c.four_words-high.ensures c.word-low.ensures.0 c.word-low.ensures.1
+pub returns-else-wide : goal.returns-else-wide
+unfolding register_of
+returns-else-wide c = rw (c.of_80.ensures, c.four_words-high.ensures, c.if-wide.false)

@@ -1,4 +1,3 @@
--- `present::last_all` meets its contract. The loop's invariant: what remains is what there was to do.
 use mathlib.Core.Path.{sym, ap, ◌∙◌}
 use Rattle.octets.specs.Bytes.{be}
 use Rattle.octets.proofs.Each.{each_none, each_next, each_all}
@@ -12,7 +11,7 @@ loop-i-init c = search (each_none, rules)
 pub loop-i-preserved : goal.loop-i-preserved
 loop-i-preserved c =
     let l = c.loop-i in
-    (l.invariant.0, each_next 0 ended l.i _ _ (search rules) (search rules) (c.bytes8-y.ensures ∙ ap (be 8) c.p_layer.ensures) ∙ l.invariant.1, l.invariant.2, search rules, search rules)
+    (each_next 0 ended l.i _ _ (search rules) (search rules) (c.block_bytes.ensures ∙ ap (be 8) c.p_layer.ensures) ∙ l.invariant.0, search rules)
 
 pub returns : goal.returns
-returns c = let l = c.loop-i in sym (each_all 0 ended l.i l.b _ (search rules) (search rules)) ∙ l.invariant.1
+returns c = let l = c.loop-i in sym (each_all 0 ended l.i l.b _ (search rules) (search rules)) ∙ l.invariant.0

@@ -1,14 +1,7 @@
 -- `running_order::gather` meets its contract. The loop's invariant: the numbers of the slots below i that are shown are the first n.
-use Prim.Native.Nat.{◌-◌, ◌≤◌}
-use mathlib.Core.Path.{◌≡◌}
-use lib.ListN.{length}
 use Rattle.running_order.specs.Inner.{Holds}
 use Rattle.running_order.specs.Order.{shown_numbers}
 use Rattle.running_order.proofs.gather.Given as goal
 
 abbrev pub invariant-loop-i : goal.invariant-loop-i
-invariant-loop-i l =
-    Holds l.numbers l.n (shown_numbers l.sheet l.terms l.day l.i) × (l.i ≤ l.h.slots) × (length l.numbers ≡ length l.initial.numbers)
-
-abbrev pub decreases-loop-i : goal.decreases-loop-i
-decreases-loop-i l = l.h.slots - l.i
+invariant-loop-i l = Holds l.numbers l.n (shown_numbers l.sheet l.terms l.day l.i)

@@ -1,16 +1,11 @@
 -- `running_order::order` meets its contract.
+use mathlib.Core.Path.{◌∙◌}
 use borrow.Author.Rules.{rules}
-use Rattle.running_order.proofs.Whole.{order_count, order_room, order_span, order_put}
+use Rattle.running_order.proofs.Whole.{order_span, order_put}
 use Rattle.running_order.proofs.order.Goals as goal
 
-pub returns-then-out-n : goal.returns-then-out-n
-returns-then-out-n c = search (order_span, rules)
-
-pub slice_bounds-copy_part-end : goal.slice_bounds-copy_part-end
-slice_bounds-copy_part-end c = search (order_count, rules)
-
-pub copy_part-requires : goal.copy_part-requires
-copy_part-requires c = search (order_room, rules)
+pub returns-then-out-text : goal.returns-then-out-text
+returns-then-out-text c = search (order_span, rules)
 
 pub returns : goal.returns
-returns c = search (order_put, rules)
+returns c = order_put _ _ _ _ _ (c.as_slice-text.ensures.value ∙ c.put_order.ensures) (search rules) _ c.copy_part.ensures

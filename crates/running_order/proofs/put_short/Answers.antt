@@ -1,21 +1,26 @@
--- `running_order::put_short` meets its contract.
+-- `running_order::put_short` meets its contract. A number below 100000 has at most five digits.
+use Prim.Native.Nat.{ℕ}
+use mathlib.Core.Path.{ap}
 use native.Mathlib.Omega.{arith}
 use borrow.Author.Rules.{rules}
+use lib.ListN.{length, length-append}
 use Rattle.listing.proofs.Decimal.{length_decimal}
-use Rattle.running_order.proofs.Lines.{append_few, append_short}
 use Rattle.running_order.proofs.put_short.Goals as goal
+use Rattle.running_order.proofs.put_short.Goals.{then-x-lt1000, else-x-lt1000}
 
-pub returns-then-x-lt1000 : goal.returns-then-x-lt1000
-returns-then-x-lt1000 c = search (append_few, rules)
+pub decimal-requires : goal.decimal-requires
+decimal-requires c = (search rules, omega (arith, length_decimal 4 c.args.x c.requires.x_bound))
 
-pub put_decimal-last-requires : goal.put_decimal-last-requires
-put_decimal-last-requires c = omega (arith, length_decimal 4 c.args.x c.requires.x_bound)
+pub byte-requires : goal.byte-requires
+byte-requires c =
+    elim c.if-x-lt1000.branch [
+      | then-x-lt1000 w ↦ (search rules, omega (arith, length_decimal 4 c.args.x c.requires.x_bound, ap length w.text-is, ap length w.put_three.ensures, length-append {A = ℕ}))
+      | else-x-lt1000 w ↦ (search rules, omega (arith, length_decimal 4 c.args.x c.requires.x_bound, ap length w.text-is, ap length w.decimal.ensures, length-append {A = ℕ}))
+    ]
 
-pub bounds-text-last-2 : goal.bounds-text-last-2
-bounds-text-last-2 c = omega (arith, length_decimal 4 c.args.x c.requires.x_bound)
-
-pub overflow_add-result-2 : goal.overflow_add-result-2
-overflow_add-result-2 c = record { fits = omega (arith, length_decimal 4 c.args.x c.requires.x_bound) }
-
-pub returns : goal.returns
-returns c = search (append_short, rules)
+pub returns-clause-short : goal.returns-clause-short
+returns-clause-short c =
+    elim c.if-x-lt1000.branch [
+      | then-x-lt1000 w ↦ omega (arith, length_decimal 4 c.args.x c.requires.x_bound, ap length w.text-is, ap length w.put_three.ensures, ap length c.byte.ensures, length-append {A = ℕ})
+      | else-x-lt1000 w ↦ omega (arith, length_decimal 4 c.args.x c.requires.x_bound, ap length w.text-is, ap length w.decimal.ensures, ap length c.byte.ensures, length-append {A = ℕ})
+    ]

@@ -1,22 +1,15 @@
 -- `running_order::put_three` meets its contract.
-use borrow.Author.Rules.{rules}
-use Rattle.running_order.proofs.Lines.{append_one, append_two, append_three, second_inside, third_inside}
+use mathlib.Core.Path.{refl}
+use native.Mathlib.Omega.{arith}
+use Rattle.running_order.proofs.Lines.{one_put, two_put, three_put}
 use Rattle.running_order.proofs.put_three.Goals as goal
 
 pub returns-then-x-lt10 : goal.returns-then-x-lt10
-returns-then-x-lt10 c = search (append_one, rules)
-
-pub bounds-text-at-then-x-lt100-2 : goal.bounds-text-at-then-x-lt100-2
-bounds-text-at-then-x-lt100-2 c = search (second_inside, rules)
+returns-then-x-lt10 c = one_put _ _ _ c.if-x-lt10.true c.byte.ensures
 
 pub returns-then-x-lt100 : goal.returns-then-x-lt100
-returns-then-x-lt100 c = search (append_two, rules)
+returns-then-x-lt100 c = rw (c.byte-then-x-lt100-2.ensures, c.byte-then-x-lt100.ensures) (two_put _ _ _ (omega arith) (omega arith) refl)
 
-pub bounds-text-at-3 : goal.bounds-text-at-3
-bounds-text-at-3 c = search (second_inside, rules)
-
-pub bounds-text-at-4 : goal.bounds-text-at-4
-bounds-text-at-4 c = search (third_inside, rules)
-
-pub returns : goal.returns
-returns c = search (append_three, rules)
+pub returns-else-x-lt100 : goal.returns-else-x-lt100
+returns-else-x-lt100 c =
+    rw (c.byte-else-x-lt100-3.ensures, c.byte-else-x-lt100-2.ensures, c.byte-else-x-lt100.ensures) (three_put _ _ _ (omega arith) (omega arith) refl)

@@ -6,6 +6,6 @@ use Rattle.schedule.proofs.t_nibble.Goals as goal
 
 pub returns : goal.returns
 returns c = let x = c.args in record {
-  value = ap (λ (y : ℕ). bit_xor y x.c) c.sub_nibble.ensures.entry ∙ t_nibble_is x.w x.c x.i c.requires.1 c.requires.2;
-  small = xor_lt 4 _ _ c.sub_nibble.ensures.small c.requires.1;
+  value = ap (λ (y : ℕ). bit_xor y x.c) c.sub_nibble.ensures.entry ∙ t_nibble_is x.w x.c x.i c.requires.0 c.requires.1;
+  small = xor_lt 4 _ _ c.sub_nibble.ensures.small c.requires.0;
 }

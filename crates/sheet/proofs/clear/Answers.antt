@@ -2,8 +2,8 @@ use borrow.Author.Rules.{rules}
 use Rattle.sheet.proofs.Calls.{clear_refused, clear_header, clear_placed, clear_made}
 use Rattle.sheet.proofs.clear.Goals as goal
 
-pub returns-in-Refuse : goal.returns-in-Refuse
-returns-in-Refuse c = search (clear_refused, rules)
+pub returns-in_err-clear_verdict : goal.returns-in_err-clear_verdict
+returns-in_err-clear_verdict c = search (clear_refused, rules)
 
 pub sheet_shape-h-requires : goal.sheet_shape-h-requires
 sheet_shape-h-requires c = search (clear_header, rules)

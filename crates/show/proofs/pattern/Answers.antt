@@ -1,15 +1,14 @@
+-- `show::pattern` meets its contract.
 use mathlib.Core.Path.{refl}
 use native.Mathlib.Omega.{arith}
-use lib.ListN.{length-set}
 use Rattle.show.proofs.Filling.{fill_none, fill_more, fill_end}
-use borrow.Author.Rules.{rules}
 use Rattle.show.proofs.pattern.Goals as goal
 
-pub loop-i-init : goal.loop-i-init
-loop-i-init c = (search (fill_none, rules), search rules, search rules, search rules)
+pub loop-b-init : goal.loop-b-init
+loop-b-init c = fill_none _ _ _ _
 
-pub loop-i-preserved : goal.loop-i-preserved
-loop-i-preserved c = (fill_more _ _ _ c.loop-i.i _ _ _ _ c.loop-i.invariant.0 (search rules) (search rules) c.wide.ensures.0 refl, simp length-set (omega arith), simp length-set (omega arith), omega arith)
+pub loop-b-preserved : goal.loop-b-preserved
+loop-b-preserved c = fill_more _ _ _ c.loop-b.b-index _ _ _ c.loop-b.invariant c.loop-b-test.true c.loop-b.auto.out (omega arith) refl
 
 pub returns : goal.returns
-returns c = fill_end _ _ _ c.loop-i.i _ _ c.loop-i.invariant.0 (omega arith) (omega arith) (search rules)
+returns c = fill_end _ _ _ c.loop-b.b-index _ _ c.loop-b.invariant c.loop-b-test.false c.loop-b.auto.out

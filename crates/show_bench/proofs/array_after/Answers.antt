@@ -9,11 +9,9 @@ use Rattle.show_bench.proofs.array_after.Goals as goal
 pub round_key-requires-in-loop-i : goal.round_key-requires-in-loop-i
 unfolding forward
 round_key-requires-in-loop-i c =
-    let e : c.forward-next.result.round ≡ c.loop-i.i + 1 = ap (λ (x : Register). x.round) c.forward-next.ensures ∙ ap (λ (n : ℕ). n + 1) c.loop-i.invariant.1 in
-    (omega (arith, c.loop-i.invariant, c.requires.1, c.loop-i-test.true), c.sbox_tables-s.ensures)
+    let e : c.forward-next.result.round ≡ c.loop-i.i + 1 = ap (λ (x : Register). x.round) c.forward-next.ensures ∙ ap (λ (n : ℕ). n + 1) c.loop-i.invariant in
+    omega (arith, e, c.requires.1, c.loop-i-test.true)
 
 pub loop-i-preserved : goal.loop-i-preserved
 unfolding forward
-loop-i-preserved c =
-    let e : c.forward-next.result.round ≡ c.loop-i.i + 1 = ap (λ (x : Register). x.round) c.forward-next.ensures ∙ ap (λ (n : ℕ). n + 1) c.loop-i.invariant.1 in
-    (omega (arith, c.loop-i-test.true), e)
+loop-i-preserved c = ap (λ (x : Register). x.round) c.forward-next.ensures ∙ ap (λ (n : ℕ). n + 1) c.loop-i.invariant

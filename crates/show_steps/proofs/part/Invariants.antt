@@ -1,5 +1,5 @@
 -- `part` hands `chain_next` what it requires. The loop's invariant: c is C_j.
-use Prim.Native.Nat.{◌-◌, ◌≤◌}
+use Prim.Native.Nat.{◌≤◌}
 use mathlib.Core.Path.{◌≡◌}
 use mathlib.Core.List.{◌++◌}
 use Rattle.octets.specs.Bytes.{zeros}
@@ -9,6 +9,3 @@ use Rattle.show_steps.proofs.part.Given as goal
 
 abbrev pub invariant-loop-j : goal.invariant-loop-j
 invariant-loop-j g l = (l.c ≡ chain_value (encrypted l.k) (zeros 8) (l.head ++ l.rest) l.j) × (l.from ≤ l.j) × (l.j ≤ l.to)
-
-abbrev pub decreases-loop-j : goal.decreases-loop-j
-decreases-loop-j g l = l.to - l.j

@@ -6,8 +6,8 @@ use Rattle.text.proofs.broken_at.Goals as goal
 pub loop-i-init : goal.loop-i-init
 loop-i-init c = search (reaches_none, rules)
 
-pub returns-then-n-eq4 : goal.returns-then-n-eq4
-returns-then-n-eq4 c = search (breaks_here, rules)
+pub returns-in-None : goal.returns-in-None
+returns-in-None c = search (breaks_here, rules)
 
 pub loop-i-preserved : goal.loop-i-preserved
 loop-i-preserved c = search (reaches_next, rules)

@@ -1,19 +1,27 @@
 -- `text::is_second` meets its contract.
-use borrow.Author.Rules.{rules}
-use Rattle.text.proofs.Ways.{second_E0, second_ED, second_F0, second_F4, second_other}
+use Rattle.std.proofs.Common.{arith}
+use Rattle.std.proofs.lemmas.Grind.{common_steps}
+use Rattle.text.specs.Grammar.{inside}
+use Rattle.text.specs.Steps.{second_low, second_high, second}
+use Rattle.text.proofs.Leads.{second_tail}
 use Rattle.text.proofs.is_second.Goals as goal
 
-pub returns-then-x-eq224 : goal.returns-then-x-eq224
-returns-then-x-eq224 c = search (second_E0, rules)
+pub returns-in-224 : goal.returns-in-224
+unfolding inside second second_low second_high
+returns-in-224 c = rw c.in-224.is (grind (arith, common_steps))
 
-pub returns-then-x-eq237 : goal.returns-then-x-eq237
-returns-then-x-eq237 c = search (second_ED, rules)
+pub returns-in-237 : goal.returns-in-237
+unfolding inside second second_low second_high
+returns-in-237 c = rw c.in-237.is (grind (arith, common_steps))
 
-pub returns-then-x-eq240 : goal.returns-then-x-eq240
-returns-then-x-eq240 c = search (second_F0, rules)
+pub returns-in-240 : goal.returns-in-240
+unfolding inside second second_low second_high
+returns-in-240 c = rw c.in-240.is (grind (arith, common_steps))
 
-pub returns-then-x-eq244 : goal.returns-then-x-eq244
-returns-then-x-eq244 c = search (second_F4, rules)
+pub returns-in-244 : goal.returns-in-244
+unfolding inside second second_low second_high
+returns-in-244 c = rw c.in-244.is (grind (arith, common_steps))
 
-pub returns : goal.returns
-returns c = search (second_other, rules)
+pub returns-in_default : goal.returns-in_default
+returns-in_default c =
+    rw (second_tail c.args.x (λ q. omega arith) (λ q. omega arith) (λ q. omega arith) (λ q. omega arith)) c.is_tail.ensures

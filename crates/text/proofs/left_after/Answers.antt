@@ -1,19 +1,13 @@
 -- `text::left_after` meets its contract.
 use borrow.Author.Rules.{rules}
-use Rattle.text.proofs.Breaks.{left_one, left_none, left_more, left_inside, left_outside}
+use Rattle.text.proofs.Breaks.{left_first, left_inside, left_outside}
 use Rattle.text.proofs.left_after.Goals as goal
 
-pub returns-then-y-lt128 : goal.returns-then-y-lt128
-returns-then-y-lt128 c = search (left_one, rules)
+pub returns-in-0 : goal.returns-in-0
+returns-in-0 c = search (left_first, rules)
 
-pub returns-then-m-eq0 : goal.returns-then-m-eq0
-returns-then-m-eq0 c = search (left_none, rules)
+pub returns-in_default : goal.returns-in_default
+returns-in_default c = search (left_inside, rules)
 
-pub returns-then-n-eq0 : goal.returns-then-n-eq0
-returns-then-n-eq0 c = search (left_more, rules)
-
-pub returns-then-is_second : goal.returns-then-is_second
-returns-then-is_second c = search (left_inside, rules)
-
-pub returns : goal.returns
-returns c = search (left_outside, rules)
+pub returns-in_default-2 : goal.returns-in_default-2
+returns-in_default-2 c = search (left_outside, rules)

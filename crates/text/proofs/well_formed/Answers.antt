@@ -1,19 +1,16 @@
 -- `text::well_formed` meets its contract.
-use borrow.Author.Rules.{rules}
-use Rattle.text.proofs.Ways.{passes_none, passes_then, left_character, text_broken, text_whole}
+use Rattle.std.proofs.Common.{◌∙◌}
+use Rattle.text.proofs.Ways.{passed_next, passed_broken, passed_all}
 use Rattle.text.proofs.well_formed.Goals as goal
 
-pub loop-i-init : goal.loop-i-init
-loop-i-init c = search (passes_none, rules)
+pub loop-rest-preserved-then-x-lt128 : goal.loop-rest-preserved-then-x-lt128
+loop-rest-preserved-then-x-lt128 c = c.after_ascii-rest.ensures.same ∙ c.loop-rest.invariant
 
-pub loop-i-preserved-then-s-i-lt128 : goal.loop-i-preserved-then-s-i-lt128
-loop-i-preserved-then-s-i-lt128 c = search (passes_then, rules)
+pub loop-rest-preserved : goal.loop-rest-preserved
+loop-rest-preserved c = passed_next _ _ c.loop-rest.invariant _ c.in-len1-up.len_at_least c.in-Some.ensures
 
-pub returns-then-n-eq0 : goal.returns-then-n-eq0
-returns-then-n-eq0 c = search (text_broken, rules)
-
-pub loop-i-preserved : goal.loop-i-preserved
-loop-i-preserved c = search (left_character, rules)
+pub returns-in-None : goal.returns-in-None
+returns-in-None c = passed_broken _ _ c.loop-rest.invariant c.in-len1-up.len_at_least c.in-None.ensures
 
 pub returns : goal.returns
-returns c = search (text_whole, rules)
+returns c = passed_all _ _ c.loop-rest.invariant c.in_default.len_below

@@ -1,14 +1,20 @@
-use Rattle.verdicts.proofs.Verdicts.{wrong_sealing, wrong_checking, lengths_same, lengths_differ}
+use borrow.Author.Rules.{rules}
+use borrow.Author.Tests.{not-true, not-false}
+use Rattle.verdicts.proofs.Verdicts.{wrong_sealing, wrong_checking, lengths_left}
 use Rattle.verdicts.proofs.wrong_keys.Goals as goal
-
-pub returns-then-not-sheet_key_length : goal.returns-then-not-sheet_key_length
-returns-then-not-sheet_key_length c = search (wrong_sealing)
+use Rattle.verdicts.proofs.wrong_keys.Goals.{then-not-sheet_key_length, else-not-sheet_key_length}
 
 pub returns-then-not-sheet_key_length-2 : goal.returns-then-not-sheet_key_length-2
-returns-then-not-sheet_key_length-2 c = search (wrong_checking)
+returns-then-not-sheet_key_length-2 c =
+    rw c.if-not-sheet_key_length-2.true
+    (elim c.if-not-sheet_key_length.branch [
+      | then-not-sheet_key_length w ↦ search (wrong_sealing, not-true, rules)
+      | else-not-sheet_key_length w ↦ search (wrong_checking, not-true, not-false, rules)
+    ])
 
-pub returns-then-sealing-checking : goal.returns-then-sealing-checking
-returns-then-sealing-checking c = search (lengths_same)
-
-pub returns : goal.returns
-returns c = search (lengths_differ)
+pub returns-else-not-sheet_key_length-2 : goal.returns-else-not-sheet_key_length-2
+returns-else-not-sheet_key_length-2 c =
+    elim c.if-not-sheet_key_length.branch [
+      | then-not-sheet_key_length w ↦ cc
+      | else-not-sheet_key_length w ↦ search (lengths_left, not-false, rules)
+    ]

@@ -4,23 +4,35 @@ use borrow.Author.Rules.{rules}
 use Rattle.present_schedule.proofs.Register.update.Goals as goal
 
 pub box_at-a-requires : goal.box_at-a-requires
-box_at-a-requires c = q128 c.args.self.high c.args.self.low 0 (search rules) (search rules)
+box_at-a-requires c = let r = c.self.inside in q128 r.high r.low 0 (search rules) (search rules)
 
 pub overflow_add-y : goal.overflow_add-y
-overflow_add-y c = record { fits = y128 c.args.self.high c.args.self.low 0 (search rules) (search rules) }
+overflow_add-y c = let r = c.self.inside in record { fits = y128 r.high r.low 0 (search rules) (search rules) }
+
+pub invariant_of-result : goal.invariant_of-result
+invariant_of-result c =
+    let r = c.self.inside in
+    (wide_updated r.high r.low c.args.i r.wide c.if-wide.true (search rules) (search rules) c.box_at-a.ensures.0 c.box_at-b.ensures.0).low_lt
 
 pub returns-then-wide : goal.returns-then-wide
 returns-then-wide c =
-    let a = c.args in
-    wide_updated a.self.high a.self.low a.i a.self.wide c.if-wide.true (search rules) (search rules) c.box_at-a.ensures.0 c.box_at-b.ensures.0
+    let r = c.self.inside in
+    rw (← c.self.view_is)
+    (wide_updated r.high r.low c.args.i r.wide c.if-wide.true (search rules) (search rules) c.box_at-a.ensures.0 c.box_at-b.ensures.0)
 
 pub box_at-c-requires : goal.box_at-c-requires
-box_at-c-requires c = q80 c.args.self.high c.args.self.low 0 (search rules) (narrow_low c.args.self.low c.args.self.wide c.if-wide.false c.requires.low_lt)
+box_at-c-requires c = let r = c.self.inside in q80 r.high r.low 0 (search rules) (narrow_low r.low r.wide c.if-wide.false c.self.invariant)
 
 pub overflow_add-x-3 : goal.overflow_add-x-3
-overflow_add-x-3 c = record { fits = x80 c.args.self.high c.args.self.low c.box_at-c.result (search rules) c.box_at-c.ensures.1 }
+overflow_add-x-3 c = let r = c.self.inside in record { fits = x80 r.high r.low c.box_at-c.result (search rules) c.box_at-c.ensures.1 }
+
+pub invariant_of-result-2 : goal.invariant_of-result-2
+invariant_of-result-2 c =
+    let r = c.self.inside in
+    (narrow_updated r.high r.low c.args.i r.wide c.if-wide.false (search rules) c.self.invariant c.box_at-c.ensures.0).low_lt
 
 pub returns : goal.returns
 returns c =
-    let a = c.args in
-    narrow_updated a.self.high a.self.low a.i a.self.wide c.if-wide.false (search rules) c.requires.low_lt c.box_at-c.ensures.0
+    let r = c.self.inside in
+    rw (← c.self.view_is)
+    (narrow_updated r.high r.low c.args.i r.wide c.if-wide.false (search rules) c.self.invariant c.box_at-c.ensures.0)

@@ -6,19 +6,19 @@ use Rattle.schedule.proofs.Register.round_key.Goals as goal
 
 pub t_nibble-requires : goal.t_nibble-requires
 unfolding constants
-t_nibble-requires c = (c.requires.1, constant_lt c.args.self.round c.requires.0, search rules)
+t_nibble-requires c = (constant_lt c.args.self.round c.requires, search rules)
 
 pub t_nibble-requires-2 : goal.t_nibble-requires-2
 unfolding constants
-t_nibble-requires-2 c = (c.requires.1, constant_lt c.args.self.round c.requires.0, search rules)
+t_nibble-requires-2 c = (constant_lt c.args.self.round c.requires, search rules)
 
 pub t_nibble-requires-3 : goal.t_nibble-requires-3
 unfolding constants
-t_nibble-requires-3 c = (c.requires.1, constant_lt c.args.self.round c.requires.0, search rules)
+t_nibble-requires-3 c = (constant_lt c.args.self.round c.requires, search rules)
 
 pub t_nibble-requires-4 : goal.t_nibble-requires-4
 unfolding constants
-t_nibble-requires-4 c = (c.requires.1, constant_lt c.args.self.round c.requires.0, search rules)
+t_nibble-requires-4 c = (constant_lt c.args.self.round c.requires, search rules)
 
 pub returns : goal.returns
 unfolding register_t constants

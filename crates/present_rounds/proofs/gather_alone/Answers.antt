@@ -1,8 +1,0 @@
-use mathlib.Core.Path.{refl}
-use Rattle.present_rounds.specs.Digits.{sum}
-use Rattle.present_rounds.specs.Tables.{listed, strewn, entry, gathers}
-use Rattle.present_rounds.proofs.gather_alone.Goals as goal
-
-pub returns : goal.returns
-unfolding listed strewn entry sum gathers
-returns c = refl
