@@ -458,8 +458,7 @@ fn present_blocks(meter: &mut Meter, random: &mut Random) {
     meter.head(
         "PRESENT, one block: ns for each block",
         "\
-Beside optimised Rust with the same tables of 256 entries, which are statics there. The
-library's are made anew for each block.",
+Beside optimised Rust with the same tables of 256 entries, which are statics in both.",
         "Call | Key bits | Library | Rust | Ratio | Instructions | Second program",
     );
     let calls: [(&str, [BaselineCall; 3]); 2] = [
