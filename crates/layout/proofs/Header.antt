@@ -193,19 +193,19 @@ module _ (s : List ℕ) (l : (edition_of s).header ≤ length s) where
       unfolding rule2
       rule_two q r u = u ∙ rw (is_two y g q, class_found edition2 (is_two y g q), ← edition_read s y (header_long s l) g, eq-eqb y 2 q)
 
-      rule_three : y ≡ 3 → true ≡ (edition_of s).rule s
+      pub rule_three : y ≡ 3 → true ≡ (edition_of s).rule s
       unfolding rule3
       rule_three q = rw (is_three y g q, class_found edition3 (is_three y g q), ← edition_read s y (header_long s l) g, eq-eqb y 3 q)
 
-      one_or_none : (y ≡ 2 → ⊥) → (y ≡ 3 → ⊥) → eqb y 1 ≡ (edition_of s).rule s
+      pub rule_one : (y ≡ 2 → ⊥) → (y ≡ 3 → ⊥) → eqb y 1 ≡ (edition_of s).rule s
       unfolding rule1
-      one_or_none q r = rw (is_one y g q r, class_found edition1 (is_one y g q r), ← edition_read s y (header_long s l) g)
+      rule_one q r = rw (is_one y g q r, class_found edition1 (is_one y g q r), ← edition_read s y (header_long s l) g)
 
       pub rule_known : (y ≡ 1) ⊎ (y ≡ 3) → true ≡ (edition_of s).rule s
-      rule_known = ⊎_elim (λ q. sym (eq-eqb y 1 q) ∙ one_or_none (λ p. omega (arith, p, q)) (λ p. omega (arith, p, q))) rule_three
+      rule_known = ⊎_elim (λ q. sym (eq-eqb y 1 q) ∙ rule_one (λ p. omega (arith, p, q)) (λ p. omega (arith, p, q))) rule_three
 
       pub rule_none : (y ≡ 1 → ⊥) → (y ≡ 2 → ⊥) → (y ≡ 3 → ⊥) → false ≡ (edition_of s).rule s
-      rule_none n q r = sym (ne_eqb y 1 n) ∙ one_or_none q r
+      rule_none n q r = sym (ne_eqb y 1 n) ∙ rule_one q r
 
 -- ---- the size: n is what was read of bytes 0 and 1, r what was found of it
 

@@ -161,7 +161,7 @@ pub fn decrypt_words(u: Register, b: [u16; 4]) -> [u16; 4]
 }
 
 // σ, a round and φ on each array of a list, in its place.
-fn sigma_all(k: [u16; 4], a: &mut [[u16; 4]])
+pub fn sigma_all(k: [u16; 4], a: &mut [[u16; 4]])
     ensures { a.new ≡ map (σ k) a.old }
 {
     for x in a.iter_mut() {
@@ -178,7 +178,7 @@ fn round_all(d: Direction, k: [u16; 4], a: &mut [[u16; 4]])
     }
 }
 
-fn phi_all(a: &mut [[u16; 4]])
+pub fn phi_all(a: &mut [[u16; 4]])
     ensures { a.new ≡ map φ a.old }
 {
     for x in a.iter_mut() {
